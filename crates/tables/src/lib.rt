@@ -2,5 +2,6 @@
 //!
 //! Reading is total: a byte past the end is 0, a table past the end is missing.
 pub mod bytes;
+pub mod search;
 pub mod uints;
 pub mod width;
