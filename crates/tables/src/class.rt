@@ -1,5 +1,6 @@
 //! Class tables.
 ghost use mathlib.Core.Path.{_≡_};
+ghost use Prim.Native.Nat.{_<_};
 ghost use Rattle.std.specs.Orderings.{Decides};
 ghost use Rattle.std.specs.declared.option.Option.the-variants.{Some};
 ghost use Rattle.opentype.specs.Bytes.{childAt};
@@ -13,6 +14,12 @@ use crate::search::find;
 use crate::uints::Uints;
 use crate::width::Two;
 use crate::width::TwoWidth;
+
+/// The format that has an array of classes.
+const ARRAY_FORMAT: u32 = 1;
+
+/// The format that lists ranges.
+const RANGE_FORMAT: u32 = 2;
 
 /// Where the first glyph of an array stands, behind the format.
 const START_PLACE: usize = 2;
@@ -37,17 +44,17 @@ pub enum ClassDef<'a> {
 impl<'a> ClassDef<'a> {
     /// The class table that `bytes` begin with.
     pub fn new(bytes: &'a [u8]) -> ClassDef<'a>
-        ensures { λ r. ⌜ classesOf r ≡ classesIn (Some (now (bytes .entry))) ⌝ }
+        ensures value { λ r. ⌜ classesOf r ≡ classesIn (Some (now (bytes .entry))) ⌝ }
     {
         match number::<Two>(bytes, 0) {
-            1 => match Uints::counted::<Two>(bytes, CLASS_COUNT_PLACE, 0) {
+            ARRAY_FORMAT => match Uints::counted::<Two>(bytes, CLASS_COUNT_PLACE, 0) {
                 Some(classes) => ClassDef::Array {
                     start: number::<Two>(bytes, START_PLACE) as u16,
                     classes,
                 },
                 None => ClassDef::Missing,
             },
-            2 => match RangeRecords::counted(bytes, RANGE_COUNT_PLACE) {
+            RANGE_FORMAT => match RangeRecords::counted(bytes, RANGE_COUNT_PLACE) {
                 Some(ranges) => ClassDef::Ranges(ranges),
                 None => ClassDef::Missing,
             },
@@ -57,7 +64,7 @@ impl<'a> ClassDef<'a> {
 
     /// The class table at `offset` of `bytes`: missing where the offset is null or passes the end.
     pub fn at(bytes: &'a [u8], offset: usize) -> ClassDef<'a>
-        ensures { λ r. ⌜ classesOf r ≡ classesIn (childAt (now (bytes .entry)) offset) ⌝ }
+        ensures value { λ r. ⌜ classesOf r ≡ classesIn (childAt (now (bytes .entry)) offset) ⌝ }
     {
         match child(bytes, offset) {
             Some(table) => ClassDef::new(table),
@@ -69,6 +76,7 @@ impl<'a> ClassDef<'a> {
     pub fn get(&self, glyph: u32) -> u32
         ensures value { λ r. ⌜ r ≡ classOf (classesOf (now (self .entry))) glyph ⌝ }
         ensures answers { λ r. ⌜ ClassAnswers (classesOf (now (self .entry))) glyph r ⌝ }
+        ensures bound { λ r. ⌜ r < 65536 ⌝ }
     {
         match self {
             ClassDef::Missing => 0,

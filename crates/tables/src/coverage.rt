@@ -18,6 +18,12 @@ use crate::uints::Uints;
 use crate::width::Two;
 use crate::width::TwoWidth;
 
+/// The format that lists glyphs.
+const GLYPH_FORMAT: u32 = 1;
+
+/// The format that lists ranges.
+const RANGE_FORMAT: u32 = 2;
+
 /// Where the count stands, behind the format.
 const COUNT_PLACE: u32 = 2;
 
@@ -38,14 +44,14 @@ pub enum Coverage<'a> {
 impl<'a> Coverage<'a> {
     /// The coverage table that `bytes` begin with.
     pub fn new(bytes: &'a [u8]) -> Coverage<'a>
-        ensures { λ r. ⌜ coverageOf r ≡ coverageIn (Some (now (bytes .entry))) ⌝ }
+        ensures value { λ r. ⌜ coverageOf r ≡ coverageIn (Some (now (bytes .entry))) ⌝ }
     {
         match number::<Two>(bytes, 0) {
-            1 => match Uints::counted::<Two>(bytes, COUNT_PLACE, 0) {
+            GLYPH_FORMAT => match Uints::counted::<Two>(bytes, COUNT_PLACE, 0) {
                 Some(glyphs) => Coverage::Glyphs(glyphs),
                 None => Coverage::Missing,
             },
-            2 => match RangeRecords::counted(bytes, COUNT_PLACE) {
+            RANGE_FORMAT => match RangeRecords::counted(bytes, COUNT_PLACE) {
                 Some(ranges) => Coverage::Ranges(ranges),
                 None => Coverage::Missing,
             },
@@ -55,7 +61,7 @@ impl<'a> Coverage<'a> {
 
     /// The coverage table at `offset` of `bytes`: missing where the offset is null or passes the end.
     pub fn at(bytes: &'a [u8], offset: usize) -> Coverage<'a>
-        ensures { λ r. ⌜ coverageOf r ≡ coverageIn (childAt (now (bytes .entry)) offset) ⌝ }
+        ensures value { λ r. ⌜ coverageOf r ≡ coverageIn (childAt (now (bytes .entry)) offset) ⌝ }
     {
         match child(bytes, offset) {
             Some(table) => Coverage::new(table),

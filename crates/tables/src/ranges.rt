@@ -6,14 +6,11 @@ ghost use Rattle.std.specs.Options.{mapped};
 ghost use Rattle.std.specs.Slices.{found};
 ghost use Rattle.tables.specs.Views.{countedAt, rangesOf, recordPartsOf, uintsOf};
 use crate::bytes::number;
-use crate::bytes::read;
 use crate::search::Ranges;
 use crate::uints::Uints;
+use crate::uints::counted_entries;
 use crate::width::Two;
 use crate::width::TwoWidth;
-
-/// The bytes of the count before the records.
-const COUNT_BYTES: u32 = 2;
 
 /// The bytes of a record: a start, an end and a number of two bytes each.
 const RECORD_BYTES: usize = 6;
@@ -40,11 +37,7 @@ impl<'a> RangeRecords<'a> {
         ensures value { λ r. ⌜ mapped recordPartsOf r ≡ countedAt 6 (now (bytes .entry)) place 0 ⌝ }
         ensures bound { λ r. ⌜ found r (λ u. u .count < 65536) ⌝ }
     {
-        let count = read::<Two>(bytes, place as usize)?;
-        let start = place.checked_add(COUNT_BYTES)?;
-        if start as usize + RECORD_BYTES * count as usize > bytes.len() {
-            return None;
-        }
+        let (start, count) = counted_entries(bytes, place, 0, RECORD_BYTES)?;
         Some(RangeRecords {
             bytes,
             start,
