@@ -35,7 +35,7 @@ impl Budget {
         ensures work { λ r. ⌜ r .work ≡ work ⌝ }
         ensures bytes { λ r. ⌜ r .bytes ≡ bytes ⌝ }
     {
-        Budget { work, bytes }
+        Self { work, bytes }
     }
 
     /// Draws on the work: one for each entry or rule that is visited.
@@ -58,14 +58,16 @@ impl Budget {
     pub fn work_left(&self) -> u64
         ensures value { λ r. ⌜ r ≡ now (self .entry) .work ⌝ }
     {
-        self.work
+        let Budget { work, .. } = self;
+        *work
     }
 
     /// The bytes that are left.
     pub fn bytes_left(&self) -> u64
         ensures value { λ r. ⌜ r ≡ now (self .entry) .bytes ⌝ }
     {
-        self.bytes
+        let Budget { bytes, .. } = self;
+        *bytes
     }
 
     /// Ends the allowance, and tells the work and the bytes that are left of it.
