@@ -1,1 +1,3 @@
 pub mod Glyphs
+pub mod Classes
+pub mod Coverages

@@ -138,6 +138,7 @@ impl SetDigest {
     pub fn masks(&self) -> [u64; 3]
         ensures value { λ r. ⌜ r ≡ now (self .entry) .masks ⌝ }
     {
-        self.masks
+        let SetDigest { masks } = self;
+        *masks
     }
 }
