@@ -1,9 +1,13 @@
 -- The number of each refusal.
 -- Assumes nothing.
 use Prim.Native.Nat.{ℕ}
-use Rattle.answers.specs.declared.Refusal.{Refusal}
-use Rattle.answers.specs.declared.Refusal.the-variants.{Exhausted, SpanSum}
+use Rattle.answers.specs.declared.refusal.Refusal.{Refusal}
+use Rattle.answers.specs.declared.refusal.Refusal.the-variants.{NoGlyph, TooLong, NotInRun, Exhausted, Unopenable, SpanSum}
 
 abbrev pub numberOf : Refusal → ℕ
+numberOf NoGlyph = 1
+numberOf TooLong = 2
+numberOf NotInRun = 3
 numberOf Exhausted = 5
+numberOf Unopenable = 7
 numberOf SpanSum = 8

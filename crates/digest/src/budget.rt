@@ -5,7 +5,7 @@ ghost use mathlib.Core.List.{[], _∷_};
 ghost use Prim.Native.Nat.{_-_};
 ghost use lib.Dec.{leb};
 ghost use Rattle.std.specs.Results.{isOk};
-ghost use Rattle.answers.specs.declared.Refusal.the-variants.{Exhausted};
+ghost use Rattle.answers.specs.declared.refusal.Refusal.the-variants.{Exhausted};
 ghost use Rattle.opentype.specs.Draws.{Drew, ofBytes, ofWork};
 ghost use Rattle.digest.specs.Allowances.{Drawn, allowanceOf};
 use answers::Refusal;
