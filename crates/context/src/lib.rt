@@ -2,3 +2,4 @@
 pub mod classes;
 pub mod coverages;
 pub mod glyphs;
+pub mod subtable;
