@@ -13,10 +13,16 @@ pub enum Refusal {
     NotInRun = 3,
     /// A draw is above what is left of the allowance.
     Exhausted = 5,
+    /// A subtable cannot be filtered: a class array of its input or lookahead runs past glyph 65,535.
+    NotFilterable = 6,
     /// A subtable has more than 16,777,216 bytes, an unknown format, or a header part that is not inside.
     Unopenable = 7,
     /// A sum by which a span's mask is computed passes 64 bits.
     SpanSum = 8,
+    /// A buffer for the words of rule sets is shorter than the sets.
+    ShortBuffer = 10,
+    /// Two banks together have more than 32 subtables.
+    TooManySubtables = 11,
 }
 
 impl Refusal {
