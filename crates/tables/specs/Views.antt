@@ -1,4 +1,4 @@
--- What views of numbers and of child tables stand for.
+-- What views of numbers, of child tables and of ranges stand for.
 -- Assumes nothing.
 use Prim.Native.Nat.{ℕ, _+_, _-_, _*_}
 use mathlib.Core.Bool.{_&&_}
@@ -9,6 +9,8 @@ use lib.ListN.{length}
 use Rattle.std.specs.Options.{whenTrue}
 use Rattle.std.specs.declared.option.Option.{Option}
 use Rattle.opentype.specs.Bytes.{Array, number, numbers, each, childAt}
+use Rattle.opentype.specs.Ranges.{Ranges, rangesAt}
+use Rattle.tables.specs.declared.ranges.RangeRecords.{RangeRecords}
 use Rattle.tables.specs.declared.uints.Uints.{Uints}
 use Rattle.tables.specs.declared.uints.Offsets.{Offsets}
 
@@ -30,3 +32,10 @@ countedAt width xs place less =
 -- the child tables, by offsets of `width` bytes each
 abbrev pub childrenOf : (width : ℕ) → Offsets → Array (Option (List ℕ))
 childrenOf width o = each (childAt (now (o .bytes))) (uintsOf width (o .offsets))
+
+-- the ranges of a view's records, of six bytes each
+abbrev pub rangesOf : RangeRecords → Ranges
+rangesOf r = rangesAt (now (r .bytes)) (r .start) (r .count)
+
+abbrev pub recordPartsOf : RangeRecords → List ℕ × ℕ × ℕ
+recordPartsOf r = (now (r .bytes), r .start, r .count)

@@ -32,11 +32,7 @@ impl<'a> Uints<'a> {
         ensures inside { λ r. ⌜ found r (λ u. u .start + W·Width .bytes * u .count ≤ length (now (bytes .entry))) ⌝ }
         ensures bound { λ r. ⌜ found r (λ u. u .count < 65536) ⌝ }
     {
-        let count = read::<Two>(bytes, place as usize)?.saturating_sub(less);
-        let start = place.checked_add(COUNT_BYTES)?;
-        if start as usize + W::width() * count as usize > bytes.len() {
-            return None;
-        }
+        let (start, count) = counted_entries(bytes, place, less, W::width())?;
         Some(Uints {
             bytes,
             start,
@@ -66,8 +62,28 @@ impl<'a> Uints<'a> {
     pub fn is_empty(&self) -> bool
         ensures { λ r. ⌜ r ≡ eqb (now (self .entry) .count) 0 ⌝ }
     {
-        self.count == 0
+        self.len() == 0
     }
+}
+
+/// The start and the number of entries of `size` bytes behind a count at `place`, `less` fewer than it says.
+pub(crate) fn counted_entries(
+    bytes: &[u8],
+    place: u32,
+    less: u32,
+    size: usize,
+) -> Option<(u32, u32)>
+    requires { ⌜ size ≤ 6 ⌝ }
+    ensures value { λ r. ⌜ mapped (λ e. (now (bytes .entry), e .0, e .1)) r ≡ countedAt size (now (bytes .entry)) place less ⌝ }
+    ensures inside { λ r. ⌜ found r (λ e. e .0 + size * e .1 ≤ length (now (bytes .entry))) ⌝ }
+    ensures bound { λ r. ⌜ found r (λ e. e .1 < 65536) ⌝ }
+{
+    let count = read::<Two>(bytes, place as usize)?.saturating_sub(less);
+    let start = place.checked_add(COUNT_BYTES)?;
+    if start as usize + size * count as usize > bytes.len() {
+        return None;
+    }
+    Some((start, count))
 }
 
 /// Offsets to child tables, with the bytes that they are relative to. An offset of 0 is null.
