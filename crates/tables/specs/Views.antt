@@ -22,8 +22,8 @@ uintsOf width u = numbers width (now (u .bytes)) (u .start) (u .count)
 abbrev pub partsOf : Uints → List ℕ × ℕ × ℕ
 partsOf u = (now (u .bytes), u .start, u .count)
 
--- The numbers behind a count of two bytes at `place`, `less` fewer than it says, by their parts: none where the count or
--- the numbers pass the end, or the numbers start at a place past 32 bits.
+-- The entries of `width` bytes behind a count of two bytes at `place`, `less` fewer than it says, by their parts: none
+-- where the count or the entries pass the end, or the entries start at a place past 32 bits.
 abbrev pub countedAt : (width : ℕ) → List ℕ → (place less : ℕ) → Option (List ℕ × ℕ × ℕ)
 countedAt width xs place less =
     whenTrue (ltb (place + 2) 4294967296 && leb (place + 2 + width * (number 2 xs place - less)) (length xs))

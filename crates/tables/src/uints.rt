@@ -108,11 +108,4 @@ impl<'a> Offsets<'a> {
     {
         self.offsets.len()
     }
-
-    /// Whether there are none.
-    pub fn is_empty(&self) -> bool
-        ensures { λ r. ⌜ r ≡ eqb (now (self .entry) .offsets .count) 0 ⌝ }
-    {
-        self.offsets.is_empty()
-    }
 }
