@@ -7,7 +7,7 @@ use Rattle.opentype.specs.Headers.{classTable}
 use Rattle.opentype.specs.Matching.{ChainMatchers}
 use Rattle.opentype.specs.Subtables.{ByClass, inClass}
 use Rattle.tables.specs.Tables.{classesOf, coverageOf}
-use Rattle.tables.specs.Views.{uintsOf}
+use Rattle.readers.specs.Views.{uintsOf}
 use Rattle.context.specs.declared.classes.ChainContext2.{ChainContext2}
 
 -- values have two bytes, and so have set and rule offsets, save in the wide kind

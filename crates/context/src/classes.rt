@@ -6,6 +6,10 @@ ghost use Rattle.opentype.specs.Subtables.{classContext, inClass};
 ghost use Rattle.rules.specs.Views.{foundOf};
 ghost use Rattle.tables.specs.Tables.{classesOf};
 ghost use Rattle.context.specs.Classes.{classTableOf, inClasses};
+use readers::width::Three;
+use readers::width::ThreeWidth;
+use readers::width::Two;
+use readers::width::TwoWidth;
 use rules::matching::InClass;
 use rules::matching::InClassMatch;
 use rules::rule_sets::RuleSets;
@@ -13,10 +17,6 @@ use rules::walk::ChainMatchers;
 use rules::walk::Found;
 use tables::class::ClassDef;
 use tables::coverage::Coverage;
-use tables::width::Three;
-use tables::width::ThreeWidth;
-use tables::width::Two;
-use tables::width::TwoWidth;
 
 /// Rules over classes: the first glyph must be covered, and its input class selects the set. Each sequence has a class
 /// table of its own. In the wide kind set and rule offsets have three bytes; values always have two.

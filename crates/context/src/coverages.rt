@@ -7,16 +7,16 @@ ghost use Rattle.opentype.specs.Matching.{applies as appliesIn, finds, ruleAppl
 ghost use Rattle.opentype.specs.Subtables.{coverageContext};
 ghost use Rattle.rules.specs.Views.{foundOf};
 ghost use Rattle.context.specs.Coverages.{coverMatchers, coverageTableOf};
+use readers::width::Three;
+use readers::width::ThreeWidth;
+use readers::width::Two;
+use readers::width::TwoWidth;
 use rules::matching::CoveredBy;
 use rules::matching::CoveredByMatch;
 use rules::parsed::ParsedRule;
 use rules::walk::ChainMatchers;
 use rules::walk::Found;
 use tables::coverage::Coverage;
-use tables::width::Three;
-use tables::width::ThreeWidth;
-use tables::width::Two;
-use tables::width::TwoWidth;
 
 /// One rule over coverages: its values are offsets, in the subtable's bytes, of coverage tables. The first glyph's is
 /// apart. In the wide kind offsets have three bytes.

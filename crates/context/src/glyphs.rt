@@ -5,16 +5,16 @@ ghost use Rattle.opentype.specs.Matching.{applies as appliesIn, finds, rulesIn,
 ghost use Rattle.opentype.specs.Subtables.{glyphContext, same};
 ghost use Rattle.rules.specs.Views.{foundOf};
 ghost use Rattle.context.specs.Glyphs.{glyphTable, sameGlyphs};
+use readers::width::Three;
+use readers::width::ThreeWidth;
+use readers::width::Two;
+use readers::width::TwoWidth;
 use rules::matching::SameGlyph;
 use rules::matching::SameGlyphMatch;
 use rules::rule_sets::RuleSets;
 use rules::walk::ChainMatchers;
 use rules::walk::Found;
 use tables::coverage::Coverage;
-use tables::width::Three;
-use tables::width::ThreeWidth;
-use tables::width::Two;
-use tables::width::TwoWidth;
 
 /// Rules over glyphs: the coverage index of the first glyph selects the set. In the wide kind set offsets and values
 /// have three bytes, and so have rule offsets if the rules are chained.
@@ -87,13 +87,22 @@ impl<'a> ChainContext1<'a> {
         let sets = &self.sets;
         match (self.wide, sets.chained) {
             (false, _) => sets.find::<Two, Two, Two, SameGlyph, SameGlyph, SameGlyph>(
-                index, &matchers, run, place,
+                index,
+                &matchers,
+                run,
+                place,
             ),
             (true, false) => sets.find::<Three, Two, Three, SameGlyph, SameGlyph, SameGlyph>(
-                index, &matchers, run, place,
+                index,
+                &matchers,
+                run,
+                place,
             ),
             (true, true) => sets.find::<Three, Three, Three, SameGlyph, SameGlyph, SameGlyph>(
-                index, &matchers, run, place,
+                index,
+                &matchers,
+                run,
+                place,
             ),
         }
     }

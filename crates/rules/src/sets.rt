@@ -4,12 +4,12 @@ ghost use Rattle.std.specs.Options.{mapped};
 ghost use Rattle.std.specs.declared.option.Option.the-variants.{Some};
 ghost use Rattle.opentype.specs.Rules.{ruleSetAt, ruleSetIn};
 ghost use Rattle.rules.specs.Views.{partsOf, setOf};
-use tables::bytes::number;
-use tables::bytes::tail;
-use tables::uints::Uints;
-use tables::width::Two;
-use tables::width::TwoWidth;
-use tables::width::Width;
+use readers::bytes::number;
+use readers::bytes::tail;
+use readers::uints::Uints;
+use readers::width::Two;
+use readers::width::TwoWidth;
+use readers::width::Width;
 
 /// The bytes of a set's rule count.
 const COUNT_BYTES: u32 = 2;

@@ -10,7 +10,7 @@ use crate::parsed::RuleLayout;
 use crate::sequence::matches_before;
 use crate::sequence::matches_from;
 use crate::sets::Rules;
-use tables::width::Width;
+use readers::width::Width;
 
 /// How the values of a rule's three sequences match.
 #[derive(Clone, Copy)]

@@ -4,8 +4,8 @@ use native.Mathlib.Nat.{one-le-pow}
 use native.Mathlib.Omega.{arith}
 use borrow.Author.Needs.{needs}
 use lib.ListN.{length, List·getD-eq-default}
-use Rattle.tables.proofs.Reading.{past-end}
-use Rattle.tables.proofs.bytes.cut_short.Needs as need
+use Rattle.readers.proofs.Reading.{past-end}
+use Rattle.readers.proofs.bytes.cut_short.Needs as need
 
 pub returns-then-place-bytes : need.returns-then-place-bytes
 returns-then-place-bytes g c = record {

@@ -5,7 +5,7 @@ ghost use lib.Dec.{eqb};
 ghost use lib.ListN.{length};
 ghost use Rattle.std.specs.Options.{mapped};
 ghost use Rattle.std.specs.Slices.{found};
-ghost use Rattle.tables.specs.Views.{childrenOf, countedAt, partsOf, uintsOf};
+ghost use Rattle.readers.specs.Views.{childrenOf, countedAt, partsOf, uintsOf};
 use crate::bytes::child;
 use crate::bytes::number;
 use crate::bytes::read;
@@ -32,7 +32,7 @@ impl<'a> Uints<'a> {
         ensures inside { λ r. ⌜ found r (λ u. u .start + W·Width .bytes * u .count ≤ length (now (bytes .entry))) ⌝ }
         ensures bound { λ r. ⌜ found r (λ u. u .count < 65536) ⌝ }
     {
-        let (start, count) = counted_entries(bytes, place, less, W::width())?;
+        let (start, count) = counted_entries(bytes, place, less, W::width() as u16)?;
         Some(Uints {
             bytes,
             start,
@@ -67,20 +67,14 @@ impl<'a> Uints<'a> {
 }
 
 /// The start and the number of entries of `size` bytes behind a count at `place`, `less` fewer than it says.
-pub(crate) fn counted_entries(
-    bytes: &[u8],
-    place: u32,
-    less: u32,
-    size: usize,
-) -> Option<(u32, u32)>
-    requires { ⌜ size ≤ 6 ⌝ }
+pub fn counted_entries(bytes: &[u8], place: u32, less: u32, size: u16) -> Option<(u32, u32)>
     ensures value { λ r. ⌜ mapped (λ e. (now (bytes .entry), e .0, e .1)) r ≡ countedAt size (now (bytes .entry)) place less ⌝ }
     ensures inside { λ r. ⌜ found r (λ e. e .0 + size * e .1 ≤ length (now (bytes .entry))) ⌝ }
     ensures bound { λ r. ⌜ found r (λ e. e .1 < 65536) ⌝ }
 {
     let count = read::<Two>(bytes, place as usize)?.saturating_sub(less);
     let start = place.checked_add(COUNT_BYTES)?;
-    if start as usize + size * count as usize > bytes.len() {
+    if start as usize + size as usize * count as usize > bytes.len() {
         return None;
     }
     Some((start, count))
