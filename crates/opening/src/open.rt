@@ -51,10 +51,7 @@ pub fn open_wide<'a>(
 }
 
 /// Makes the draws of a subtable whose header could be read.
-fn grant<'a>(
-    subtable: Option<Subtable<'a>>,
-    budget: &mut Budget,
-) -> Result<Subtable<'a>, Refusal>
+fn grant<'a>(subtable: Option<Subtable<'a>>, budget: &mut Budget) -> Result<Subtable<'a>, Refusal>
     ensures answer { λ r. ⌜ toldOf tableOf r ≡ openedBy (mapped tableOf (subtable .entry)) (allowanceOf (now (budget .entry))) ⌝ }
     ensures left { λ _. ⌜ allowanceOf (now (budget .exit)) ≡ openingLeft (mapped tableOf (subtable .entry)) (allowanceOf (now (budget .entry))) ⌝ }
 {

@@ -127,11 +127,7 @@ fn sets_in<'a>(bytes: &'a [u8], range: ByteRange, chained: bool) -> RuleSets<'a>
 }
 
 /// A coverage subtable by its offsets and its records: none where the records are not inside.
-fn coverages<'a>(
-    bytes: &'a [u8],
-    offsets: ByteRange,
-    records: ByteRange,
-) -> Option<Subtable<'a>>
+fn coverages<'a>(bytes: &'a [u8], offsets: ByteRange, records: ByteRange) -> Option<Subtable<'a>>
     requires { ⌜ length (now bytes) ≤ 16777216 ⌝ }
     ensures { λ r. ⌜ mapped tableOf r ≡ wideHeaderIn (wideCoverageParts (rangeOf offsets) (rangeOf records)) (now (bytes .entry)) ⌝ }
 {
