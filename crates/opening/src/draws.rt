@@ -27,7 +27,7 @@ fn draw_array(count: u32, budget: &mut Budget) -> Result<(), Exhausted>
 
 /// Draws for a subtable: for the inputs after the first, the backtrack and the lookahead of a coverage subtable; the
 /// other kinds draw nothing.
-pub fn draw_opening(subtable: &Subtable, budget: &mut Budget) -> Result<(), Exhausted>
+pub(crate) fn draw_opening(subtable: &Subtable, budget: &mut Budget) -> Result<(), Exhausted>
     ensures { λ r. ⌜ Drew (openingDraws (tableOf (now (subtable .entry)))) (allowanceOf (now (budget .entry))) (allowanceOf (now (budget .exit))) (isOk r) ⌝ }
 {
     match subtable {

@@ -44,7 +44,7 @@ pub(crate) fn uints<'a>(bytes: &'a [u8], start: u32, count: u32) -> Uints<'a>
 }
 
 /// The subtable that `bytes` begin with: none where its format is unknown or a part of its header is not inside.
-pub fn header<'a>(bytes: &'a [u8], chained: bool) -> Option<Subtable<'a>>
+pub(crate) fn header<'a>(bytes: &'a [u8], chained: bool) -> Option<Subtable<'a>>
     ensures { λ r. ⌜ mapped tableOf r ≡ headerIn chained (now (bytes .entry)) ⌝ }
 {
     match (word(bytes, 0), chained) {
