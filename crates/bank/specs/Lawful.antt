@@ -7,7 +7,7 @@ use mathlib.Core.Bool.{Bool, true, false, cond}
 use mathlib.Core.List.{List, [], _∷_, _++_}
 use mathlib.Core.Logic.{_⊎_, inl, inr, ⊎-elim}
 use native.Mathlib.Omega.{arith}
-use lib.ListN.{length, getD, take, length-take, length-append, List·getD-eq-default}
+use lib.ListN.{length, length-take, length-append, List·getD-eq-default}
 use Rattle.std.proofs.shelf.Lists.{getD-take, getD-append-left, getD-append-right}
 use Rattle.std.proofs.shelf.Tests.{false≢true, true≢false, cases-lt}
 use Rattle.std.specs.Results.{isOk, valueOr}
@@ -51,8 +51,8 @@ one-lawful {s} h = record { few = omega arith; sound = by }
 pub joined-length : {X : Type 0} (xs ys : List X) → length (joinedBanks xs ys) ≡ min 32 (length xs + length ys)
 joined-length xs ys = simp (length-take, length-append)
 
--- what subtable k of the joined bank is asked of: of the first bank, which has n, where k is below n; and also past 32,
--- which is past the first bank's last
+-- subtable k of the joined bank is one of the first bank, which has n, where k is below n; the first bank is asked past
+-- 32 too, where neither has one
 abbrev pub OfFirst : (n k : ℕ) → Type 0
 OfFirst n k = (k < n) ⊎ ((n ≤ k) × (32 ≤ k))
 
@@ -64,7 +64,7 @@ module _ (xs ys : List Subtable) (n k : ℕ) (counted : n ≡ length xs) where
       let past : length (joinedBanks xs ys) ≤ k = omega (arith, joined-length xs ys, h .1) in
       List·getD-eq-default xs pastLast (omega (arith, counted, h .0)) ∙ sym (List·getD-eq-default (joinedBanks xs ys) pastLast past)
 
-  -- else of the second, as its subtable k - n
+  -- else it is subtable k - n of the second
   pub from-second : n ≤ k → k < 32 → subtable ys (k - n) ≡ subtable (joinedBanks xs ys) k
   from-second past few = sym (getD-take 32 (xs ++ ys) k pastLast few ∙ getD-append-right xs ys n k pastLast (sym counted) past)
 

@@ -18,7 +18,7 @@ module _ (bank : List Subtable) (glyphs : List ℕ) (bare : Bool) where
   abbrev pub someApplies : Bool
   someApplies = anyBelow (λ k. subtable bank k .matching .applies glyphs bare) (length bank)
 
-  -- subtable k of the bank would
+  -- a subtable k of the bank would
   abbrev pub SomeApplies : Type 0
   SomeApplies = (k : ℕ) × (k < length bank) × (subtable bank k .matching .applies glyphs bare ≡ true)
 
@@ -27,7 +27,7 @@ module _ (bank : List Subtable) (run : List ℕ) (place : ℕ) where
   abbrev pub firstHit : Option Hit
   firstHit = firstBelow (λ k. hitOf (subtable bank k) k run place) (length bank)
 
-  -- subtable k of the bank matches at the place, this is its hit, and no subtable before it matches there
+  -- a subtable k of the bank matches at the place, this is its hit, and no subtable before it matches there
   abbrev pub IsFirst : Hit → Type 0
   IsFirst hit = (k : ℕ) × (f : Found) × (k < length bank) × (subtable bank k .matching .finds run place ≡ Some f)
       × (hit ≡ told place k f) × ((j : ℕ) → j < k → subtable bank j .matching .finds run place ≡ None)
