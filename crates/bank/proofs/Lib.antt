@@ -1,0 +1,2 @@
+mod Renumbering
+mod Searching

@@ -1,0 +1,4 @@
+pub mod Answers
+pub mod Joined
+pub mod Searches
+pub mod Lawful
