@@ -1,0 +1,5 @@
+mod Counting
+mod Naming
+mod Pairing
+mod Ranging
+mod Steps

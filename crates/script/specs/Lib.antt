@@ -1,0 +1,5 @@
+pub mod Bytes
+pub mod Hex
+pub mod Numbers
+pub mod Verbs
+pub mod Words

@@ -1,0 +1,7 @@
+//! The script language: turns lines of text into commands, and decodes the bytes and glyphs that they carry.
+pub mod command;
+pub mod fault;
+pub mod hex;
+pub mod numbers;
+pub mod span;
+pub mod words;
