@@ -1,0 +1,4 @@
+//! Sets of glyphs and of values by masks of 64 bits, and the allowance that is drawn on while they are made.
+mod masks;
+pub mod rule_set_digest;
+pub mod set_digest;
