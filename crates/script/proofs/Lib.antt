@@ -3,3 +3,4 @@ mod Naming
 mod Pairing
 mod Ranging
 mod Steps
+mod Wording

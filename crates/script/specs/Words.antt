@@ -1,6 +1,8 @@
 -- The words of a line: the longest runs of bytes that are no space.
 use Prim.Native.Nat.{ℕ}
-use mathlib.Core.List.{List, [], _∷_}
+use mathlib.Core.Bool.{cond}
+use mathlib.Core.List.{List, [], _∷_, _++_}
+use lib.Dec.{eqb}
 use lib.ListN.{take, drop}
 use Rattle.std.specs.declared.option.Option.{Option}
 use Rattle.std.specs.declared.option.Option.the-variants.{Some, None}
@@ -20,3 +22,22 @@ wordIn cs = unlessEmpty (take (indexOf 32 (fromWord cs)) (fromWord cs))
 
 abbrev pub afterWord : List ℕ → List ℕ
 afterWord cs = drop (indexOf 32 (fromWord cs)) (fromWord cs)
+
+-- a word that has ended, unless it is empty
+abbrev pub ended : List ℕ → List (List ℕ)
+ended [] = []
+ended (c ∷ cs) = (c ∷ cs) ∷ []
+
+-- all words of a text, the first of which has begun with `word`
+abbrev pub wordsAfter : (word : List ℕ) → List ℕ → List (List ℕ)
+wordsAfter word [] = ended word
+wordsAfter word (c ∷ cs) = cond (eqb c 32) (ended word ++ wordsAfter [] cs) (wordsAfter (word ++ c ∷ []) cs)
+
+-- all words of a text
+abbrev pub wordsIn : List ℕ → List (List ℕ)
+wordsIn cs = wordsAfter [] cs
+
+-- words that begin with this one, if it is there
+abbrev pub headed : Option (List ℕ) → List (List ℕ) → List (List ℕ)
+headed None ws = []
+headed (Some w) ws = w ∷ ws

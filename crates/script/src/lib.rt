@@ -3,5 +3,6 @@ pub mod command;
 pub mod fault;
 pub mod hex;
 pub mod numbers;
+pub mod reader;
 pub mod span;
 pub mod words;

@@ -1,11 +1,12 @@
 //! The words of a line.
 ghost use mathlib.Core.Path.{_≡_};
-ghost use Prim.Native.Nat.{_≤_};
+ghost use Prim.Native.Nat.{_<_, _≤_};
+ghost use mathlib.Core.Bool.{true};
 ghost use denote.Ref.{now};
 ghost use lib.ListN.{length};
-ghost use Rattle.std.specs.Options.{mapped};
+ghost use Rattle.std.specs.Options.{isSome, mapped};
 ghost use Rattle.script.specs.Bytes.{indexOf, leading};
-ghost use Rattle.script.specs.Words.{wordIn, afterWord};
+ghost use Rattle.script.specs.Words.{afterWord, headed, wordIn, wordsIn};
 
 /// What separates words.
 const SPACE: u8 = b' ';
@@ -54,6 +55,8 @@ impl<'a> Words<'a> {
     pub fn next_word(&mut self) -> Option<&'a [u8]>
         ensures value { λ r. ⌜ mapped now r ≡ wordIn (now (now (self .entry) .rest)) ⌝ }
         ensures after { λ r. ⌜ now (now (self .exit) .rest) ≡ afterWord (now (now (self .entry) .rest)) ⌝ }
+        ensures words { λ r. ⌜ wordsIn (now (now (self .entry) .rest)) ≡ headed (mapped now r) (wordsIn (now (now (self .exit) .rest))) ⌝ }
+        ensures shorter { λ r. ⌜ (isSome r ≡ true → length (now (now (self .exit) .rest)) < length (now (now (self .entry) .rest))) ⌝ }
     {
         let spaces = leading_spaces(self.rest);
         let (_, text) = self.rest.split_at(spaces);
