@@ -4,15 +4,18 @@ use Prim.Native.Nat.{ℕ}
 use mathlib.Core.Bool.{Bool}
 use mathlib.Core.List.{List}
 use denote.Ref.{now}
+use lib.ListN.{length}
 use Rattle.std.specs.declared.option.Option.{Option}
 use Rattle.opentype.specs.Bytes.{Array, each, tailAt}
+use Rattle.opentype.specs.Headers.{setsAt}
 use Rattle.opentype.specs.Matching.{ChainMatchers as Matchers, Found as Told}
-use Rattle.opentype.specs.Rules.{Rule, RuleSet as Set, null, unreadable, rules, ruleIn}
+use Rattle.opentype.specs.Rules.{Rule, RuleSet as Set, Sets, null, unreadable, rules, ruleIn, ruleSetAt}
 use Rattle.tables.specs.Views.{uintsOf}
 use Rattle.rules.specs.declared.parsed.ParsedRule.{ParsedRule}
 use Rattle.rules.specs.declared.parsed.RuleLayout.{RuleLayout}
 use Rattle.rules.specs.declared.walk.ChainMatchers.{ChainMatchers}
 use Rattle.rules.specs.declared.walk.Found.{Found}
+use Rattle.rules.specs.declared.rule_sets.RuleSets.{RuleSets}
 use Rattle.rules.specs.declared.sets.Rules.{Rules}
 use Rattle.rules.specs.declared.sets.RuleSet.{RuleSet}
 use Rattle.rules.specs.declared.sets.RuleSet.the-variants as variants
@@ -51,3 +54,14 @@ matchersOf backtrack input lookahead m = record {
   input = input (m .input);
   lookahead = lookahead (m .lookahead);
 }
+
+abbrev pub layoutOf : RuleSets → RuleLayout
+layoutOf s = record { chained = s .chained; whole = length (now (s .bytes)) }
+
+-- the sets of a subtable, each by the bytes of its rules
+abbrev pub partsIn : (set offset : ℕ) → RuleSets → Array (Set (Option (List ℕ)))
+partsIn set offset s = each (ruleSetAt offset (now (s .bytes))) (uintsOf set (s .offsets))
+
+-- the same with their rules
+abbrev pub setsOf : (set offset value : ℕ) → RuleSets → Sets ℕ
+setsOf set offset value s = setsAt (record { chained = s .chained; value = value; offset = offset }) (now (s .bytes)) (uintsOf set (s .offsets))

@@ -1,6 +1,7 @@
 //! Rule sets and rules of context subtables, read in place, and matching their values to glyphs.
 pub mod matching;
 pub mod parsed;
-pub mod sequence;
+pub mod rule_sets;
+mod sequence;
 pub mod sets;
 pub mod walk;

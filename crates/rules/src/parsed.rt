@@ -20,7 +20,7 @@ pub struct RuleLayout {
     /// Whether the rules are chained: with backtrack and lookahead.
     pub chained: bool,
     /// The length of the subtable, whose tail each rule is: it tells where in the subtable a rule begins.
-    pub whole: u32,
+    pub whole: usize,
 }
 
 /// A rule: its values, and the place in the subtable and the number of its records.
@@ -57,7 +57,7 @@ impl<'a> ParsedRule<'a> {
     }
 
     /// A plain rule: glyph count, record count, one value fewer than glyphs, records.
-    fn plain<W: Width>(bytes: &'a [u8], whole: u32) -> Option<ParsedRule<'a>>
+    fn plain<W: Width>(bytes: &'a [u8], whole: usize) -> Option<ParsedRule<'a>>
         ensures { λ r. ⌜ mapped (ruleOf (W·Width .bytes)) r ≡ plainRule (W·Width .bytes) whole (now (bytes .entry)) ⌝ }
     {
         let count = number::<Two>(bytes, 0).saturating_sub(1);
@@ -74,14 +74,14 @@ impl<'a> ParsedRule<'a> {
                 count,
             },
             lookahead: no_values(bytes),
-            records: (whole as usize).saturating_sub(bytes.len()) + records,
+            records: whole.saturating_sub(bytes.len()) + records,
             record_count,
         })
     }
 
     /// A chained rule: backtrack count and values, input count and one value fewer, lookahead count and values, record
     /// count and records.
-    fn chained<W: Width>(bytes: &'a [u8], whole: u32) -> Option<ParsedRule<'a>>
+    fn chained<W: Width>(bytes: &'a [u8], whole: usize) -> Option<ParsedRule<'a>>
         ensures { λ r. ⌜ mapped (ruleOf (W·Width .bytes)) r ≡ chainedRule (W·Width .bytes) whole (now (bytes .entry)) ⌝ }
     {
         let width = W::width() as u32;
@@ -111,7 +111,7 @@ impl<'a> ParsedRule<'a> {
                 start: lookahead_place + 2,
                 count: lookaheads,
             },
-            records: (whole as usize).saturating_sub(bytes.len()) + (record_place + 2),
+            records: whole.saturating_sub(bytes.len()) + (record_place + 2),
             record_count,
         })
     }
