@@ -36,7 +36,8 @@ fn answer_class(rt: &impl Print, table: &[u8], glyph: u32) -> Result<(), AnyErro
 /// Prints the masks of a digest, or the number of a refusal.
 fn answer_masks(rt: &impl Print, masks: Result<[u64; 3], Refusal>) -> Result<(), AnyError> {
     match masks {
-        Ok([first, second, third]) => {
+        Ok(masks) => {
+            let [first, second, third] = masks;
             println!(rt, "masks {first:016X} {second:016X} {third:016X}")?
         }
         Err(refusal) => {
