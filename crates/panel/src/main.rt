@@ -3,14 +3,14 @@ use answers::Refusal;
 use digest::budget::Budget;
 use digest::set_digest::SetDigest;
 use script::command::Command;
-use script::fault::Fault;
-use script::fault::FaultDisplay;
 use script::reader::Script;
-use script::span::Span;
 use std::error::AnyError;
 use std::io::Read;
 use tables::class::ClassDef;
 use tables::coverage::Coverage;
+use words::fault::Fault;
+use words::fault::FaultDisplay;
+use words::span::Span;
 
 /// The elements of a buffer at a span.
 fn at<'a, T>(buffer: &'a [T], span: Span) -> &'a [T] {

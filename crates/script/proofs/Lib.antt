@@ -1,6 +1,3 @@
-mod Counting
+mod Growing
 mod Naming
-mod Pairing
-mod Ranging
-mod Steps
-mod Wording
+mod Reading

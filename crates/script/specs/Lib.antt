@@ -1,5 +1,3 @@
-pub mod Bytes
-pub mod Hex
-pub mod Numbers
+pub mod Lines
+pub mod Meant
 pub mod Verbs
-pub mod Words

@@ -2,11 +2,10 @@
 ghost use mathlib.Core.Path.{_≡_};
 ghost use Rattle.std.specs.shelf.Text.{sameBytes};
 ghost use Rattle.script.specs.Verbs.{firstNamed, nameOf, verbIn};
-use crate::span::Span;
-use crate::span::SpanDebug;
+use words::span::Span;
 
 /// The first word of a command.
-#[derive(Clone, Copy, Debug, PartialEq)]
+#[derive(Clone, Copy)]
 pub enum Verb {
     Coverage,
     Class,
@@ -17,7 +16,7 @@ pub enum Verb {
 }
 
 /// A command with its arguments. Bytes and glyphs stand in the script's buffers.
-#[derive(Clone, Copy, Debug)]
+#[derive(Clone, Copy)]
 pub enum Command {
     /// Asks the coverage table in these bytes for a glyph.
     Coverage { table: Span, glyph: u32 },

@@ -1,8 +1,3 @@
-//! The script language: turns lines of text into commands, and decodes the bytes and glyphs that they carry.
+//! The script language: turns the lines of a text into commands, with the bytes and glyphs that they stand on.
 pub mod command;
-pub mod fault;
-pub mod hex;
-pub mod numbers;
 pub mod reader;
-pub mod span;
-pub mod words;
