@@ -12,7 +12,7 @@ use words::fault::Fault;
 use words::fault::FaultDisplay;
 use words::span::Span;
 
-/// The elements of a buffer at a span.
+/// The elements of a buffer at a span. Every span of a script that was read lies inside its buffer.
 fn at<'a, T>(buffer: &'a [T], span: Span) -> &'a [T] {
     buffer.get(span.start..span.end).unwrap_or(&[])
 }
