@@ -1,9 +1,16 @@
 -- The number of each refusal.
 -- Assumes nothing.
 use Prim.Native.Nat.{ℕ}
-use Rattle.answers.specs.declared.Refusal.{Refusal}
-use Rattle.answers.specs.declared.Refusal.the-variants.{Exhausted, SpanSum}
+use Rattle.answers.specs.declared.refusal.Refusal.{Refusal}
+use Rattle.answers.specs.declared.refusal.Refusal.the-variants.{NoGlyph, TooLong, NotInRun, Exhausted, NotFilterable, Unopenable, SpanSum, ShortBuffer, TooManySubtables}
 
 abbrev pub numberOf : Refusal → ℕ
+numberOf NoGlyph = 1
+numberOf TooLong = 2
+numberOf NotInRun = 3
 numberOf Exhausted = 5
+numberOf NotFilterable = 6
+numberOf Unopenable = 7
 numberOf SpanSum = 8
+numberOf ShortBuffer = 10
+numberOf TooManySubtables = 11

@@ -1,21 +1,11 @@
-//! What calls are refused with: one enum for all layers, so that a refusal passes up as it is.
-ghost use mathlib.Core.Path.{_≡_};
-ghost use Rattle.answers.specs.Numbers.{numberOf};
+//! What calls answer: the refusals of all layers in one enum, so that a refusal passes up as it is; the hit; and the
+//! questions that are put to glyph lists, runs and places.
+pub mod hit;
+pub mod questions;
+pub mod refusal;
 
-/// Why a call is refused.
-#[derive(Clone, Copy, PartialEq, Eq, Debug)]
-pub enum Refusal {
-    /// A draw is above what is left of the allowance.
-    Exhausted = 5,
-    /// A sum by which a span's mask is computed passes 64 bits.
-    SpanSum = 8,
-}
-
-impl Refusal {
-    /// The number that stands for the refusal where answers are printed or stored.
-    pub fn number(self) -> u8
-        ensures value { λ r. ⌜ r ≡ numberOf self ⌝ }
-    {
-        self as u8
-    }
-}
+pub use hit::Hit;
+pub use questions::ask_list;
+pub use questions::ask_place;
+pub use questions::ask_run;
+pub use refusal::Refusal;

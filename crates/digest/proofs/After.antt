@@ -1,11 +1,15 @@
 -- What is known of masks once a glyph or a span was added.
 -- Assumes nothing.
-use mathlib.Core.Path.{_≡_, sym, _∙_}
+use mathlib.Core.Path.{_≡_, sym, ap, _∙_}
 use mathlib.Core.Bool.{true}
 use mathlib.Core.List.{List, [], _∷_}
 use Prim.Native.Nat.{ℕ, zero, suc, _^_, _≤_, _<_}
 use native.Mathlib.Omega.{arith}
 use lib.ListN.{length, getD}
+use Rattle.std.proofs.shelf.Tests.{true≢false}
+use Rattle.std.specs.Results.{isOk}
+use Rattle.std.specs.declared.result.Result.{Result}
+use Rattle.std.specs.declared.result.Result.the-variants.{Ok, Err}
 use Rattle.opentype.specs.Filters.{addFrom}
 use Rattle.opentype.specs.Laws.{Bits-added, Bits-spanned, Covers}
 use Rattle.opentype.specs.Masks.{addGlyph, admits}
@@ -13,6 +17,10 @@ use Rattle.opentype.specs.Spans.{addSpan}
 use Rattle.opentype.specs.Theorems.{InBits}
 use Rattle.opentype.proofs.Laws.{digest-laws, mask-laws}
 use Rattle.opentype.proofs.Spanning.{ranges-are-spans}
+
+-- an answer is not a refusal
+pub ok≢err : {X Y : Type 0} (x : X) (y : Y) → _≡_ {A = Result X Y} (Ok x) (Err y) → ⊥
+ok≢err x y e = true≢false (ap isOk e)
 
 module _ (ns ms : List ℕ) (g : ℕ) (made : ns ≡ addGlyph ms g) where
   pub glyph-added : admits ns g ≡ true

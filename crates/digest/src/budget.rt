@@ -5,7 +5,7 @@ ghost use mathlib.Core.List.{[], _∷_};
 ghost use Prim.Native.Nat.{_-_};
 ghost use lib.Dec.{leb};
 ghost use Rattle.std.specs.Results.{isOk};
-ghost use Rattle.answers.specs.declared.Refusal.the-variants.{Exhausted};
+ghost use Rattle.answers.specs.declared.refusal.Refusal.the-variants.{Exhausted};
 ghost use Rattle.opentype.specs.Draws.{Drew, ofBytes, ofWork};
 ghost use Rattle.digest.specs.Allowances.{Drawn, allowanceOf};
 use answers::Refusal;
@@ -35,7 +35,7 @@ impl Budget {
         ensures work { λ r. ⌜ r .work ≡ work ⌝ }
         ensures bytes { λ r. ⌜ r .bytes ≡ bytes ⌝ }
     {
-        Budget { work, bytes }
+        Self { work, bytes }
     }
 
     /// Draws on the work: one for each entry or rule that is visited.
@@ -58,14 +58,16 @@ impl Budget {
     pub fn work_left(&self) -> u64
         ensures value { λ r. ⌜ r ≡ now (self .entry) .work ⌝ }
     {
-        self.work
+        let Budget { work, .. } = self;
+        *work
     }
 
     /// The bytes that are left.
     pub fn bytes_left(&self) -> u64
         ensures value { λ r. ⌜ r ≡ now (self .entry) .bytes ⌝ }
     {
-        self.bytes
+        let Budget { bytes, .. } = self;
+        *bytes
     }
 
     /// Ends the allowance, and tells the work and the bytes that are left of it.

@@ -63,6 +63,7 @@ impl RuleSetDigest {
     pub fn word(&self) -> u64
         ensures value { λ r. ⌜ r ≡ now (self .entry) .word ⌝ }
     {
-        self.word
+        let RuleSetDigest { word } = self;
+        *word
     }
 }

@@ -4,7 +4,7 @@ ghost use mathlib.Core.Bool.{true, false, cond};
 ghost use Prim.Native.Nat.{ℕ, _<_, _≤_};
 ghost use Rattle.std.specs.Results.{isOk};
 ghost use Rattle.std.specs.declared.result.Result.the-variants.{Ok, Err};
-ghost use Rattle.answers.specs.declared.Refusal.the-variants.{SpanSum};
+ghost use Rattle.answers.specs.declared.refusal.Refusal.the-variants.{SpanSum};
 ghost use Rattle.opentype.specs.Filters.{addFrom};
 ghost use Rattle.opentype.specs.Laws.{Bits-added, Bits-joined, Bits-spanned, Covers};
 ghost use Rattle.opentype.specs.Masks.{addGlyph, admits, full, hasGlyph, joined, none, withGlyph};
@@ -138,6 +138,7 @@ impl SetDigest {
     pub fn masks(&self) -> [u64; 3]
         ensures value { λ r. ⌜ r ≡ now (self .entry) .masks ⌝ }
     {
-        self.masks
+        let SetDigest { masks } = self;
+        *masks
     }
 }

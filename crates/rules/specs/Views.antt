@@ -10,7 +10,7 @@ use Rattle.opentype.specs.Bytes.{Array, each, tailAt}
 use Rattle.opentype.specs.Headers.{setsAt}
 use Rattle.opentype.specs.Matching.{ChainMatchers as Matchers, Found as Told}
 use Rattle.opentype.specs.Rules.{Rule, RuleSet as Set, Sets, null, unreadable, rules, ruleIn, ruleSetAt}
-use Rattle.tables.specs.Views.{uintsOf}
+use Rattle.readers.specs.Views.{uintsOf}
 use Rattle.rules.specs.declared.parsed.ParsedRule.{ParsedRule}
 use Rattle.rules.specs.declared.parsed.RuleLayout.{RuleLayout}
 use Rattle.rules.specs.declared.walk.ChainMatchers.{ChainMatchers}

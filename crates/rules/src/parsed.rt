@@ -5,11 +5,11 @@ ghost use Rattle.std.specs.Options.{mapped};
 ghost use Rattle.std.specs.declared.option.Option.the-variants.{Some};
 ghost use Rattle.opentype.specs.Rules.{chainedRule, plainRule, ruleIn};
 ghost use Rattle.rules.specs.Views.{ruleOf};
-use tables::bytes::number;
-use tables::uints::Uints;
-use tables::width::Two;
-use tables::width::TwoWidth;
-use tables::width::Width;
+use readers::bytes::number;
+use readers::uints::Uints;
+use readers::width::Two;
+use readers::width::TwoWidth;
+use readers::width::Width;
 
 /// The bytes of a record.
 const RECORD_BYTES: usize = 4;

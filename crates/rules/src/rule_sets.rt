@@ -8,8 +8,8 @@ use crate::parsed::RuleLayout;
 use crate::sets::RuleSet;
 use crate::walk::ChainMatchers;
 use crate::walk::Found;
-use tables::uints::Uints;
-use tables::width::Width;
+use readers::uints::Uints;
+use readers::width::Width;
 
 /// The rule sets of a subtable: its bytes, the offsets to its sets, and whether their rules are chained. The functions
 /// that read them name the widths of set offsets (`S`), rule offsets (`O`) and values (`W`).

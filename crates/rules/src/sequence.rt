@@ -3,10 +3,10 @@ ghost use mathlib.Core.Path.{_≡_};
 ghost use Prim.Native.Nat.{_≤_};
 ghost use lib.ListN.{length};
 ghost use Rattle.opentype.specs.Matching.{matchesBefore, matchesFrom};
-ghost use Rattle.tables.specs.Views.{uintsOf};
+ghost use Rattle.readers.specs.Views.{uintsOf};
 use crate::matching::ValueMatch;
-use tables::uints::Uints;
-use tables::width::Width;
+use readers::uints::Uints;
+use readers::width::Width;
 
 /// Whether value i matches the glyph at `place` + i, for each of the values.
 pub(crate) fn matches_from<W: Width, M: ValueMatch>(

@@ -3,13 +3,15 @@ ghost use mathlib.Core.Path.{_≡_};
 ghost use Rattle.std.specs.Options.{mapped};
 ghost use Rattle.std.specs.declared.option.Option.the-variants.{Some};
 ghost use Rattle.opentype.specs.Rules.{ruleSetAt, ruleSetIn};
-ghost use Rattle.rules.specs.Views.{partsOf, setOf};
-use tables::bytes::number;
-use tables::bytes::tail;
-use tables::uints::Uints;
-use tables::width::Two;
-use tables::width::TwoWidth;
-use tables::width::Width;
+ghost use Rattle.rules.specs.Views.{partsOf, ruleOf, rulesOf, setOf};
+use crate::parsed::ParsedRule;
+use crate::parsed::RuleLayout;
+use readers::bytes::number;
+use readers::bytes::tail;
+use readers::uints::Uints;
+use readers::width::Two;
+use readers::width::TwoWidth;
+use readers::width::Width;
 
 /// The bytes of a set's rule count.
 const COUNT_BYTES: u32 = 2;
@@ -34,6 +36,18 @@ impl<'a> Rules<'a> {
         ensures { λ r. ⌜ mapped now r ≡ partsOf (O·Width .bytes) (now (self .entry)) .entry index ⌝ }
     {
         tail(self.bytes, self.offsets.get::<O>(index) as usize)
+    }
+
+    /// Rule `index`; none where it is unreadable.
+    pub fn parsed<O: Width, W: Width>(
+        &self,
+        index: u32,
+        layout: RuleLayout,
+    ) -> Option<ParsedRule<'a>>
+        ensures { λ r. ⌜ mapped (ruleOf (W·Width .bytes)) r ≡ rulesOf (O·Width .bytes) (W·Width .bytes) layout (now (self .entry)) .entry index ⌝ }
+    {
+        let bytes = self.rule::<O>(index)?;
+        ParsedRule::parse::<W>(bytes, layout)
     }
 }
 

@@ -1,8 +1,8 @@
-//! Rules and the rules of a set, held against a list of glyphs or a place of a run.
+//! Rules and the rules of a set, matched at a place of a run.
 ghost use mathlib.Core.Path.{_≡_};
 ghost use Rattle.std.specs.Options.{mapped};
 ghost use Rattle.std.specs.declared.option.Option.the-variants.{Some};
-ghost use Rattle.opentype.specs.Matching.{ruleApplies, ruleFinds, ruleMatches, setApplies, setFinds};
+ghost use Rattle.opentype.specs.Matching.{ruleFinds, ruleMatches, setFinds};
 ghost use Rattle.rules.specs.Views.{foundOf, matchersOf, ruleOf, rulesOf};
 use crate::matching::ValueMatch;
 use crate::parsed::ParsedRule;
@@ -10,7 +10,7 @@ use crate::parsed::RuleLayout;
 use crate::sequence::matches_before;
 use crate::sequence::matches_from;
 use crate::sets::Rules;
-use tables::width::Width;
+use readers::width::Width;
 
 /// How the values of a rule's three sequences match.
 #[derive(Clone, Copy)]
@@ -30,20 +30,6 @@ pub struct Found {
 }
 
 impl<'a> ParsedRule<'a> {
-    /// Whether the rule applies to `glyphs`; where `zero_context`, only without backtrack and lookahead.
-    pub fn applies<W: Width, I: ValueMatch>(
-        &self,
-        input: &I,
-        glyphs: &[u32],
-        zero_context: bool,
-    ) -> bool
-        ensures { λ r. ⌜ r ≡ ruleApplies (I·ValueMatch .means (now (input .entry))) «zero_context» (now (glyphs .entry)) (Some (ruleOf (W·Width .bytes) (now (self .entry)))) ⌝ }
-    {
-        glyphs.len() == self.input.count as usize + 1
-            && (!zero_context || (self.backtrack.is_empty() && self.lookahead.is_empty()))
-            && matches_from::<W, I>(&self.input, input, glyphs, 1)
-    }
-
     /// What the rule tells at `place` of `run`, where it matches there. The glyph at the place itself is not asked.
     pub fn find<W: Width, B: ValueMatch, I: ValueMatch, L: ValueMatch>(
         &self,
@@ -90,26 +76,6 @@ impl<'a> ParsedRule<'a> {
 }
 
 impl<'a> Rules<'a> {
-    /// Whether some readable rule of the set applies: its offsets have the width `O`, the values the width `W`.
-    pub fn apply<O: Width, W: Width, I: ValueMatch>(
-        &self,
-        layout: RuleLayout,
-        input: &I,
-        glyphs: &[u32],
-        zero_context: bool,
-    ) -> bool
-        ensures { λ r. ⌜ r ≡ setApplies (I·ValueMatch .means (now (input .entry))) «zero_context» (now (glyphs .entry)) (rulesOf (O·Width .bytes) (W·Width .bytes) layout (now (self .entry))) ⌝ }
-    {
-        for i in 0..self.len() {
-            if let Some(rule) = self.parsed::<O, W>(i, layout) {
-                if rule.applies::<W, I>(input, glyphs, zero_context) {
-                    return true;
-                }
-            }
-        }
-        false
-    }
-
     /// What the first readable rule that matches at `place` of `run` tells.
     pub fn find<O: Width, W: Width, B: ValueMatch, I: ValueMatch, L: ValueMatch>(
         &self,
@@ -121,24 +87,13 @@ impl<'a> Rules<'a> {
         ensures { λ r. ⌜ mapped foundOf r ≡ setFinds (matchersOf (B·ValueMatch .means) (I·ValueMatch .means) (L·ValueMatch .means) (now (matchers .entry))) (now (run .entry)) place (rulesOf (O·Width .bytes) (W·Width .bytes) layout (now (self .entry))) ⌝ }
     {
         for i in 0..self.len() {
-            if let Some(rule) = self.parsed::<O, W>(i, layout) {
-                if let Some(found) = rule.find::<W, B, I, L>(matchers, run, place) {
-                    return Some(found);
-                }
+            let Some(rule) = self.parsed::<O, W>(i, layout) else {
+                continue;
+            };
+            if let Some(found) = rule.find::<W, B, I, L>(matchers, run, place) {
+                return Some(found);
             }
         }
         None
-    }
-
-    /// Rule `index`; none where it is unreadable.
-    pub fn parsed<O: Width, W: Width>(
-        &self,
-        index: u32,
-        layout: RuleLayout,
-    ) -> Option<ParsedRule<'a>>
-        ensures { λ r. ⌜ mapped (ruleOf (W·Width .bytes)) r ≡ rulesOf (O·Width .bytes) (W·Width .bytes) layout (now (self .entry)) .entry index ⌝ }
-    {
-        let bytes = self.rule::<O>(index)?;
-        ParsedRule::parse::<W>(bytes, layout)
     }
 }

@@ -7,7 +7,8 @@ use Rattle.std.specs.declared.option.Option.the-variants.{Some}
 use Rattle.opentype.specs.Classes.{Classes, noClasses, classArray, classRanges}
 use Rattle.opentype.specs.Coverages.{Coverage as CoverageTable, noCoverage, glyphList, glyphRanges}
 use Rattle.opentype.specs.Relations.{CoverageInOrder, CoveredAt, ClassesInOrder, ListedIn}
-use Rattle.tables.specs.Views.{uintsOf, rangesOf}
+use Rattle.readers.specs.Views.{uintsOf}
+use Rattle.tables.specs.Views.{rangesOf}
 use Rattle.tables.specs.declared.class.ClassDef.{ClassDef}
 use Rattle.tables.specs.declared.class.ClassDef.the-variants as class
 use Rattle.tables.specs.declared.coverage.Coverage.{Coverage}

@@ -6,14 +6,14 @@ ghost use Rattle.std.specs.declared.option.Option.the-variants.{Some};
 ghost use Rattle.opentype.specs.Bytes.{childAt};
 ghost use Rattle.opentype.specs.Classes.{classesIn, classOf, noClasses};
 ghost use Rattle.tables.specs.Tables.{ClassAnswers, classesOf};
-use crate::bytes::child;
-use crate::bytes::number;
 use crate::ranges::RangeRecords;
 use crate::ranges::RangeRecordsRanges;
 use crate::search::find;
-use crate::uints::Uints;
-use crate::width::Two;
-use crate::width::TwoWidth;
+use readers::bytes::child;
+use readers::bytes::number;
+use readers::uints::Uints;
+use readers::width::Two;
+use readers::width::TwoWidth;
 
 /// The format that has an array of classes.
 const ARRAY_FORMAT: u32 = 1;

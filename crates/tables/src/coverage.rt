@@ -7,16 +7,16 @@ ghost use Rattle.opentype.specs.Coverages.{coverageIn, covers as coversIn, inde
 ghost use Rattle.opentype.specs.Ranges.{rangeOf};
 ghost use Rattle.tables.specs.Tables.{CoverageAnswers, coverageOf};
 ghost use Rattle.tables.specs.Views.{rangesOf};
-use crate::bytes::child;
-use crate::bytes::number;
 use crate::ranges::RangeRecords;
 use crate::ranges::RangeRecordsRanges;
 use crate::ranges::UintsRanges;
 use crate::search::Ranges;
 use crate::search::find;
-use crate::uints::Uints;
-use crate::width::Two;
-use crate::width::TwoWidth;
+use readers::bytes::child;
+use readers::bytes::number;
+use readers::uints::Uints;
+use readers::width::Two;
+use readers::width::TwoWidth;
 
 /// The format that lists glyphs.
 const GLYPH_FORMAT: u32 = 1;

@@ -1,10 +1,7 @@
-//! Numbers, child tables, coverage and class tables, read in place from a font's bytes.
+//! Coverage and class tables, read in place from a font's bytes, and the search in them.
 //!
-//! Reading is total: a byte past the end is 0, a table past the end is missing.
-pub mod bytes;
+//! Reading is total: a table that is null, past the end or unreadable is missing.
 pub mod class;
 pub mod coverage;
 pub mod ranges;
 pub mod search;
-pub mod uints;
-pub mod width;

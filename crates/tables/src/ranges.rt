@@ -4,16 +4,17 @@ ghost use Prim.Native.Nat.{_+_, _*_, _^_, _<_};
 ghost use denote.Ref.{now};
 ghost use Rattle.std.specs.Options.{mapped};
 ghost use Rattle.std.specs.Slices.{found};
-ghost use Rattle.tables.specs.Views.{countedAt, rangesOf, recordPartsOf, uintsOf};
-use crate::bytes::number;
+ghost use Rattle.readers.specs.Views.{countedAt, uintsOf};
+ghost use Rattle.tables.specs.Views.{rangesOf, recordPartsOf};
 use crate::search::Ranges;
-use crate::uints::Uints;
-use crate::uints::counted_entries;
-use crate::width::Two;
-use crate::width::TwoWidth;
+use readers::bytes::number;
+use readers::uints::Uints;
+use readers::uints::counted_entries;
+use readers::width::Two;
+use readers::width::TwoWidth;
 
 /// The bytes of a record: a start, an end and a number of two bytes each.
-const RECORD_BYTES: usize = 6;
+const RECORD_BYTES: u16 = 6;
 
 /// Where the end stands in a record.
 const END_PLACE: usize = 2;
@@ -58,7 +59,7 @@ impl<'a> RangeRecords<'a> {
         ensures value { λ r. ⌜ r ≡ now (self .entry) .start + 6 * index ⌝ }
         ensures bound { λ r. ⌜ r < 2 ^ 35 ⌝ }
     {
-        self.start as usize + RECORD_BYTES * index as usize
+        self.start as usize + RECORD_BYTES as usize * index as usize
     }
 }
 

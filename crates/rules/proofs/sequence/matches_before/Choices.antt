@@ -3,7 +3,7 @@ use mathlib.Core.Path.{_≡_}
 use mathlib.Core.Bool.{true}
 use lib.ListN.{getD}
 use Rattle.opentype.specs.Matching.{allBelow}
-use Rattle.tables.specs.Views.{uintsOf}
+use Rattle.readers.specs.Views.{uintsOf}
 use Rattle.rules.proofs.sequence.matches_before.Given as given
 
 abbrev pub Inv-loop-i : given.InvT-loop-i

@@ -3,7 +3,7 @@ use mathlib.Core.Path.{sym, _∙_}
 use native.Mathlib.Omega.{arith}
 use lib.ListN.{getD}
 use Rattle.opentype.proofs.Matched.{all-missed, all-more}
-use Rattle.tables.specs.Views.{uintsOf}
+use Rattle.readers.specs.Views.{uintsOf}
 use Rattle.rules.proofs.sequence.matches_from.Needs as need
 
 pub returns-then-not-matches : need.returns-then-not-matches

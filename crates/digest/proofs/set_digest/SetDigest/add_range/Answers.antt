@@ -1,4 +1,4 @@
-use mathlib.Core.Path.{_≡_, refl}
+use mathlib.Core.Path.{_≡_, sym}
 use mathlib.Core.List.{List, [], _∷_}
 use Prim.Native.Nat.{ℕ, _^_, _<_}
 use native.Mathlib.Omega.{arith}
@@ -6,15 +6,18 @@ use lib.ListN.{length, getD}
 use Rattle.opentype.specs.Spans.{addSpan}
 use Rattle.opentype.specs.Theorems.{InBits}
 use Rattle.opentype.proofs.Sums.{always-fits, sums-fit}
-use Rattle.digest.proofs.After.{three-in-bits, span-added, span-kept, span-bits, span-each}
+use Rattle.digest.proofs.After.{ok≢err, three-in-bits, span-added, span-kept, span-bits, span-each}
 use Rattle.digest.proofs.set_digest.SetDigest.add_range.Needs as need
 
 -- the sums fit, so that no mask is refused
+pub returns-in-Break-a : need.returns-in-Break-a
+returns-in-Break-a c = absurd (ok≢err _ _ (sym (rw (always-fits 4 (c .args .start) (c .args .end)) at (c .in-Break-a .ensures tt .value))))
+
+pub returns-in-Break-b : need.returns-in-Break-b
+returns-in-Break-b c = absurd (ok≢err _ _ (sym (rw (always-fits 0 (c .args .start) (c .args .end)) at (c .in-Break-b .ensures tt .value))))
+
 pub returns-in-Break-c : need.returns-in-Break-c
-returns-in-Break-c c =
-    let x = rw (always-fits 6 (c .args .start) (c .args .end)) at (c .in-Break-c .ensures tt .value) in
-    let z : _≡_ {A = ℕ} 0 1 = cc in
-    absurd (omega arith)
+returns-in-Break-c c = absurd (ok≢err _ _ (sym (rw (always-fits 6 (c .args .start) (c .args .end)) at (c .in-Break-c .ensures tt .value))))
 
 pub returns : need.returns
 returns c =

@@ -5,7 +5,12 @@ use Rattle.opentype.specs.Matching.{ruleApplies}
 use Rattle.opentype.proofs.Matched.{any-met, any-more}
 use Rattle.rules.specs.Views.{rulesOf}
 use Rattle.rules.proofs.sets.Rules.apply.Needs as need
-use Rattle.rules.proofs.sets.Rules.apply.Needs.{in-Some·else-applies, in-rest}
+
+pub loop-i-again-in-rest : need.loop-i-again-in-rest
+loop-i-again-in-rest g c =
+    let test = ruleApplies (g .I·ValueMatch .means (c .args .input .now)) (c .args .zero-context) (c .args .glyphs .now) in
+    let all = rulesOf (g .O·Width .bytes) (g .W·Width .bytes) (c .args .layout) (c .args .self .now) in
+    any-more (λ k. test (all .entry k)) (c .loop-i .i) (c .loop-i .inv) (sym (ap test (c .in-rest .ensures tt)))
 
 pub returns-then-applies : need.returns-then-applies
 returns-then-applies g c =
@@ -19,7 +24,4 @@ loop-i-again g c =
     let test = ruleApplies (g .I·ValueMatch .means (c .args .input .now)) (c .args .zero-context) (c .args .glyphs .now) in
     let all = rulesOf (g .O·Width .bytes) (g .W·Width .bytes) (c .args .layout) (c .args .self .now) in
     any-more (λ k. test (all .entry k)) (c .loop-i .i) (c .loop-i .inv)
-    (elim (c .match-parsed .came) [
-      | in-Some·else-applies w ↦ sym (ap test (w .in-Some .ensures tt)) ∙ sym (w .applies .ensures) ∙ w .if-applies .left
-      | in-rest w ↦ sym (ap test (w .in-rest .ensures tt))
-    ])
+    (sym (ap test (c .in-Some .ensures tt)) ∙ sym (c .applies .ensures) ∙ c .if-applies .left)

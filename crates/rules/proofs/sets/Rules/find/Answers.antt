@@ -5,7 +5,12 @@ use Rattle.opentype.specs.Matching.{ruleFinds}
 use Rattle.opentype.proofs.Matched.{first-met, first-more}
 use Rattle.rules.specs.Views.{foundOf, matchersOf, rulesOf}
 use Rattle.rules.proofs.sets.Rules.find.Needs as need
-use Rattle.rules.proofs.sets.Rules.find.Needs.{in-Some·in-rest-find, in-rest}
+
+pub loop-i-again-in-rest : need.loop-i-again-in-rest
+loop-i-again-in-rest g c =
+    let told = ruleFinds (matchersOf (g .B·ValueMatch .means) (g .I·ValueMatch .means) (g .L·ValueMatch .means) (c .args .matchers .now)) (c .args .run .now) (c .args .place) in
+    let all = rulesOf (g .O·Width .bytes) (g .W·Width .bytes) (c .args .layout) (c .args .self .now) in
+    first-more (λ k. told (all .entry k)) (c .loop-i .i) (c .loop-i .inv) (sym (ap told (c .in-rest .ensures tt)))
 
 pub returns-in-Some-find : need.returns-in-Some-find
 returns-in-Some-find g c =
@@ -19,7 +24,4 @@ loop-i-again g c =
     let told = ruleFinds (matchersOf (g .B·ValueMatch .means) (g .I·ValueMatch .means) (g .L·ValueMatch .means) (c .args .matchers .now)) (c .args .run .now) (c .args .place) in
     let all = rulesOf (g .O·Width .bytes) (g .W·Width .bytes) (c .args .layout) (c .args .self .now) in
     first-more (λ k. told (all .entry k)) (c .loop-i .i) (c .loop-i .inv)
-    (elim (c .match-parsed .came) [
-      | in-Some·in-rest-find w ↦ sym (ap told (w .in-Some .ensures tt)) ∙ sym (w .in-rest-find .ensures tt)
-      | in-rest w ↦ sym (ap told (w .in-rest .ensures tt))
-    ])
+    (sym (ap told (c .in-Some .ensures tt)) ∙ sym (c .in-rest-find .ensures tt))

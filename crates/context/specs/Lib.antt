@@ -1,0 +1,4 @@
+pub mod Glyphs
+pub mod Classes
+pub mod Coverages
+pub mod Meanings
