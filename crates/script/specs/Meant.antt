@@ -1,0 +1,101 @@
+-- What the commands of a script mean, by its buffers.
+use Prim.Native.Nat.{ℕ, _-_, _≤_}
+use mathlib.Core.Path.{_≡_}
+use mathlib.Core.List.{List, _++_, map}
+use lib.ListN.{length, take, drop}
+use Rattle.std.specs.Of.Vec.{vec-items}
+use Rattle.std.specs.Results.{Cases}
+use Rattle.std.specs.shelf.Lists.{All}
+use Rattle.std.specs.declared.result.Result.{Result}
+use Rattle.std.specs.declared.result.Result.the-variants.{Ok, Err}
+use Rattle.script.specs.Lines.{Said, coverage, class, digestOf, digestSpan, allowance, left}
+use Rattle.script.specs.declared.command.Command.{Command}
+use Rattle.script.specs.declared.command.Command.the-variants as command
+use Rattle.words.specs.declared.fault.Fault.{Fault}
+use Rattle.words.specs.declared.fault.Fault.the-variants.{NoMemory}
+use Rattle.script.specs.declared.reader.Script.{Script}
+use Rattle.words.specs.declared.span.Span.{Span}
+
+-- the elements at a span
+abbrev pub cut : Span → List ℕ → List ℕ
+cut s xs = take (s .end - s .start) (drop (s .start) xs)
+
+abbrev pub Inside : Span → List ℕ → Type 0
+Inside s xs = (s .start ≤ s .end) × (s .end ≤ length xs)
+
+-- a command with what stands at its spans
+abbrev pub meant : (bytes glyphs : List ℕ) → Command → Said
+meant bytes glyphs (command.Coverage table glyph) = coverage (cut table bytes) glyph
+meant bytes glyphs (command.Class table glyph) = class (cut table bytes) glyph
+meant bytes glyphs (command.DigestOf at) = digestOf (cut at glyphs)
+meant bytes glyphs (command.DigestSpan first last) = digestSpan first last
+meant bytes glyphs (command.Allowance work amount) = allowance work amount
+meant bytes glyphs command.Left = left
+
+-- a line with what stands at its spans
+abbrev pub said : (bytes glyphs : List ℕ) → Result Command Fault → Result Said Fault
+said bytes glyphs (Ok c) = Ok (meant bytes glyphs c)
+said bytes glyphs (Err f) = Err f
+
+-- what all lines of a script say
+abbrev pub saidOf : Script → List (Result Said Fault)
+saidOf s = map (said (vec-items (s .bytes)) (vec-items (s .glyphs))) (vec-items (s .lines))
+
+-- a command stands where its spans are inside the buffers
+abbrev pub Stands : (bytes glyphs : List ℕ) → Command → Type 0
+Stands bytes glyphs (command.Coverage table glyph) = Inside table bytes
+Stands bytes glyphs (command.Class table glyph) = Inside table bytes
+Stands bytes glyphs (command.DigestOf at) = Inside at glyphs
+Stands bytes glyphs (command.DigestSpan first last) = Unit {0}
+Stands bytes glyphs (command.Allowance work amount) = Unit {0}
+Stands bytes glyphs command.Left = Unit {0}
+
+abbrev pub LineStands : (bytes glyphs : List ℕ) → Result Command Fault → Type 0
+LineStands bytes glyphs (Ok c) = Stands bytes glyphs c
+LineStands bytes glyphs (Err f) = Unit {0}
+
+-- every command of a script stands
+abbrev pub Sound : Script → Type 0
+Sound s = All (LineStands (vec-items (s .bytes)) (vec-items (s .glyphs))) (vec-items (s .lines))
+
+-- ---- what a reading call leaves
+
+-- a fault is the one of the definition, unless there was no memory
+abbrev pub Faulty : {X : Type 0} → Result X Fault → Fault → Type 0
+Faulty read f = (f ≡ NoMemory → ⊥) → read ≡ Err f
+
+-- numbers that were appended and stand at a span
+pub record Stored (xs before after : List ℕ) (s : Span) : Type 0 where
+  pub grown : after ≡ before ++ xs
+  pub at : cut s after ≡ xs
+  pub inside : Inside s after
+
+abbrev pub GlyphsRead : Result (List ℕ) Fault → (before after : List ℕ) → Result Span Fault → Type 0
+GlyphsRead read before after r =
+    Cases r (λ s. (xs : List ℕ) × (read ≡ Ok xs) × Stored xs before after s) (λ f. (after ≡ before) × Faulty read f)
+
+abbrev pub GlyphsPushed : Result (List ℕ) Fault → (before after : List ℕ) → Result (Unit {0}) Fault → Type 0
+GlyphsPushed read before after r =
+    Cases r
+    (λ _. (xs : List ℕ) × (read ≡ Ok xs) × (after ≡ before ++ xs))
+    (λ f. ((xs : List ℕ) × (after ≡ before ++ xs)) × Faulty read f)
+
+abbrev pub TableRead : Result (List ℕ × ℕ) Fault → (before after : List ℕ) → Result (Span × ℕ) Fault → Type 0
+TableRead read before after r =
+    Cases r
+    (λ p. (xs : List ℕ) × (read ≡ Ok (xs, p .1)) × Stored xs before after (p .0))
+    (λ f. (after ≡ before) × Faulty read f)
+
+-- the buffers grow, and the lines stay
+pub record Grows (before after : Script) : Type 0 where
+  pub bytes : (xs : List ℕ) × (vec-items (after .bytes) ≡ vec-items (before .bytes) ++ xs)
+  pub glyphs : (xs : List ℕ) × (vec-items (after .glyphs) ≡ vec-items (before .glyphs) ++ xs)
+  pub lines : vec-items (after .lines) ≡ vec-items (before .lines)
+
+-- a command that was read means what the definition says, and the buffers grew by what it stands on
+abbrev pub CommandRead : Result Said Fault → (before after : Script) → Result Command Fault → Type 0
+CommandRead read before after r =
+    Grows before after
+    × Cases r
+    (λ c. (read ≡ Ok (meant (vec-items (after .bytes)) (vec-items (after .glyphs)) c)) × Stands (vec-items (after .bytes)) (vec-items (after .glyphs)) c)
+    (λ f. (vec-items (after .bytes) ≡ vec-items (before .bytes)) × (vec-items (after .glyphs) ≡ vec-items (before .glyphs)) × Faulty read f)

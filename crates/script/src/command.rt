@@ -1,0 +1,85 @@
+//! The commands of a script.
+ghost use mathlib.Core.Path.{_≡_};
+ghost use Rattle.std.specs.shelf.Text.{sameBytes};
+ghost use Rattle.script.specs.Verbs.{firstNamed, nameOf, verbIn};
+use words::span::Span;
+
+/// The first word of a command.
+#[derive(Clone, Copy)]
+pub enum Verb {
+    Coverage,
+    Class,
+    DigestOf,
+    DigestSpan,
+    Allowance,
+    Left,
+}
+
+/// A command with its arguments. Bytes and glyphs stand in the script's buffers.
+#[derive(Clone, Copy)]
+pub enum Command {
+    /// Asks the coverage table in these bytes for a glyph.
+    Coverage { table: Span, glyph: u32 },
+    /// Asks the class table in these bytes for a glyph.
+    Class { table: Span, glyph: u32 },
+    /// Adds these glyphs to an empty digest.
+    DigestOf { glyphs: Span },
+    /// Adds the glyphs from `first` to `last` to an empty digest.
+    DigestSpan { first: u32, last: u32 },
+    /// Starts over with a new allowance.
+    Allowance { work: u64, bytes: u64 },
+    /// Reads the allowance.
+    Left,
+}
+
+impl Verb {
+    /// Every verb.
+    const ALL: [Verb; 6] = [
+        Verb::Coverage,
+        Verb::Class,
+        Verb::DigestOf,
+        Verb::DigestSpan,
+        Verb::Allowance,
+        Verb::Left,
+    ];
+
+    /// The word that names the verb.
+    fn name(self) -> &'static str
+        ensures { λ r. ⌜ now r ≡ nameOf self ⌝ }
+    {
+        match self {
+            Verb::Coverage => "coverage",
+            Verb::Class => "class",
+            Verb::DigestOf => "digest-of",
+            Verb::DigestSpan => "digest-span",
+            Verb::Allowance => "allowance",
+            Verb::Left => "left",
+        }
+    }
+
+    /// The verb that a word names, if there is one.
+    pub fn named(word: &[u8]) -> Option<Verb>
+        ensures { λ r. ⌜ r ≡ verbIn (now (word .entry)) ⌝ }
+    {
+        first_named(word, &Self::ALL)
+    }
+}
+
+/// The first of these verbs that a word names.
+fn first_named(word: &[u8], verbs: &[Verb]) -> Option<Verb>
+    ensures { λ r. ⌜ r ≡ firstNamed (now (word .entry)) (now (verbs .entry)) ⌝ }
+{
+    for verb in verbs {
+        if same(word, verb.name().as_bytes()) {
+            return Some(*verb);
+        }
+    }
+    None
+}
+
+/// Whether two words are the same.
+fn same(a: &[u8], b: &[u8]) -> bool
+    ensures { λ r. ⌜ r ≡ sameBytes (now (a .entry)) (now (b .entry)) ⌝ }
+{
+    a == b
+}

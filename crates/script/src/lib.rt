@@ -1,0 +1,3 @@
+//! The script language: turns the lines of a text into commands, with the bytes and glyphs that they stand on.
+pub mod command;
+pub mod reader;

@@ -1,0 +1,4 @@
+pub mod Bytes
+pub mod Hex
+pub mod Numbers
+pub mod Words
