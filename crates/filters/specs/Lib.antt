@@ -1,0 +1,2 @@
+pub mod Seconds
+pub mod Walked
