@@ -1,2 +1,2 @@
+pub mod Digested
 pub mod Seconds
-pub mod Walked

@@ -5,8 +5,8 @@ use Rattle.std.proofs.shelf.Results.{err-from-errBy}
 use Rattle.opentype.specs.Filters.{addSet}
 use Rattle.digest.specs.Allowances.{allowanceOf}
 use Rattle.rules.specs.Views.{setsOf}
-use Rattle.filters.specs.Walked.{outcome}
-use Rattle.filters.proofs.Turns.{walks-on, walks-out}
+use Rattle.adding.specs.Walked.{outcome}
+use Rattle.adding.proofs.Turns.{walks-on, walks-out}
 use Rattle.filters.proofs.walk.add_each_set.Needs as need
 
 pub returns-in-Break-add-set : need.returns-in-Break-add-set

@@ -7,7 +7,7 @@ use Rattle.opentype.specs.Filters.{addSet}
 use Rattle.opentype.specs.Walks.{walkBelow}
 use Rattle.digest.specs.Allowances.{allowanceOf}
 use Rattle.rules.specs.Views.{setsOf}
-use Rattle.filters.specs.Walked.{outcome}
+use Rattle.adding.specs.Walked.{outcome}
 use Rattle.filters.proofs.walk.add_each_set.Given as given
 
 -- the sets before i are walked

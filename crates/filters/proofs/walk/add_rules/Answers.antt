@@ -5,8 +5,8 @@ use Rattle.std.proofs.shelf.Results.{err-from-errBy}
 use Rattle.opentype.specs.Filters.{addRule}
 use Rattle.digest.specs.Allowances.{allowanceOf}
 use Rattle.rules.specs.Views.{rulesOf}
-use Rattle.filters.specs.Walked.{outcome}
-use Rattle.filters.proofs.Turns.{walks-on, walks-out}
+use Rattle.adding.specs.Walked.{outcome}
+use Rattle.adding.proofs.Turns.{walks-on, walks-out}
 use Rattle.filters.proofs.walk.add_rules.Needs as need
 
 pub returns-in-Break-add-rule-at : need.returns-in-Break-add-rule-at

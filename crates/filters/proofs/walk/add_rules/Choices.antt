@@ -7,7 +7,7 @@ use Rattle.opentype.specs.Filters.{addRule}
 use Rattle.opentype.specs.Walks.{walkBelow}
 use Rattle.digest.specs.Allowances.{allowanceOf}
 use Rattle.rules.specs.Views.{rulesOf}
-use Rattle.filters.specs.Walked.{outcome}
+use Rattle.adding.specs.Walked.{outcome}
 use Rattle.filters.proofs.walk.add_rules.Given as given
 
 -- the rules before i are walked

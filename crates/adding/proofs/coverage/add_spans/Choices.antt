@@ -4,7 +4,7 @@ use mathlib.Core.List.{List}
 use Rattle.opentype.specs.Spans.{addSpan}
 use Rattle.opentype.specs.Walks.{foldBelow}
 use Rattle.tables.specs.Views.{rangesOf}
-use Rattle.filters.proofs.coverage.add_spans.Given as given
+use Rattle.adding.proofs.coverage.add_spans.Given as given
 
 -- the ranges before k are added
 abbrev pub Inv-loop-k : given.InvT-loop-k

@@ -1,6 +1,6 @@
 use mathlib.Core.Path.{refl}
 use Rattle.opentype.proofs.Sums.{sums-fit}
-use Rattle.filters.proofs.class.add_glyphs_from.Needs as need
+use Rattle.adding.proofs.class.add_glyphs_from.Needs as need
 
 pub returns-then-start-end : need.returns-then-start-end
 returns-then-start-end c =

@@ -10,7 +10,7 @@ use Rattle.opentype.specs.Carried.{Outcome, Ended, carried}
 use Rattle.opentype.specs.Draws.{Allowance}
 use Rattle.opentype.specs.Walks.{Step, walkBelow, foldBelow}
 use Rattle.opentype.proofs.Carrying.{turn, ends}
-use Rattle.filters.specs.Walked.{outcome}
+use Rattle.adding.specs.Walked.{outcome}
 
 -- ---- a turn of a loop that walks
 

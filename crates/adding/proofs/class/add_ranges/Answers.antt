@@ -5,9 +5,9 @@ use Rattle.std.proofs.shelf.Results.{err-from-errBy}
 use Rattle.opentype.specs.Filters.{addRange}
 use Rattle.digest.specs.Allowances.{allowanceOf}
 use Rattle.tables.specs.Views.{rangesOf}
-use Rattle.filters.specs.Walked.{onwards, outcome}
-use Rattle.filters.proofs.Turns.{walks-on, walks-out}
-use Rattle.filters.proofs.class.add_ranges.Needs as need
+use Rattle.adding.specs.Walked.{onwards, outcome}
+use Rattle.adding.proofs.Turns.{walks-on, walks-out}
+use Rattle.adding.proofs.class.add_ranges.Needs as need
 
 pub returns-in-Break-add-range : need.returns-in-Break-add-range
 returns-in-Break-add-range c =

@@ -7,7 +7,7 @@ ghost use Rattle.digest.specs.Allowances.{allowanceOf};
 ghost use Rattle.readers.specs.Views.{uintsOf};
 ghost use Rattle.tables.specs.Tables.{classesOf};
 ghost use Rattle.tables.specs.Views.{rangesOf};
-ghost use Rattle.filters.specs.Walked.{onwards, outcome};
+ghost use Rattle.adding.specs.Walked.{onwards, outcome};
 use digest::budget::Budget;
 use digest::budget::Exhausted;
 use digest::set_digest::SetDigest;

@@ -6,8 +6,8 @@ use Rattle.opentype.specs.Filters.{addRange}
 use Rattle.opentype.specs.Walks.{walkBelow}
 use Rattle.digest.specs.Allowances.{allowanceOf}
 use Rattle.tables.specs.Views.{rangesOf}
-use Rattle.filters.specs.Walked.{outcome}
-use Rattle.filters.proofs.class.add_ranges.Given as given
+use Rattle.adding.specs.Walked.{outcome}
+use Rattle.adding.proofs.class.add_ranges.Given as given
 
 -- the ranges before i are walked
 abbrev pub Inv-loop-i : given.InvT-loop-i

@@ -9,7 +9,7 @@ ghost use Rattle.digest.specs.Allowances.{allowanceOf};
 ghost use Rattle.readers.specs.Views.{uintsOf};
 ghost use Rattle.tables.specs.Tables.{coverageOf};
 ghost use Rattle.tables.specs.Views.{rangesOf};
-ghost use Rattle.filters.specs.Walked.{outcome};
+ghost use Rattle.adding.specs.Walked.{outcome};
 use digest::budget::Budget;
 use digest::budget::Exhausted;
 use digest::set_digest::SetDigest;

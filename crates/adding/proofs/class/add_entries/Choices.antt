@@ -1,7 +1,7 @@
 use mathlib.Core.Path.{_≡_}
 use Rattle.opentype.specs.Filters.{addEntriesBelow}
 use Rattle.readers.specs.Views.{uintsOf}
-use Rattle.filters.proofs.class.add_entries.Given as given
+use Rattle.adding.proofs.class.add_entries.Given as given
 
 -- the entries before k are added
 abbrev pub Inv-loop-k : given.InvT-loop-k

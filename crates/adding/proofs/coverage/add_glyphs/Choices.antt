@@ -4,7 +4,7 @@ use mathlib.Core.List.{List}
 use Rattle.opentype.specs.Masks.{addGlyph}
 use Rattle.opentype.specs.Walks.{foldBelow}
 use Rattle.readers.specs.Views.{uintsOf}
-use Rattle.filters.proofs.coverage.add_glyphs.Given as given
+use Rattle.adding.proofs.coverage.add_glyphs.Given as given
 
 -- the glyphs before k are added
 abbrev pub Inv-loop-k : given.InvT-loop-k

@@ -3,8 +3,8 @@ use mathlib.Core.List.{List}
 use Prim.Native.Nat.{ℕ}
 use Rattle.opentype.specs.Masks.{addGlyph}
 use Rattle.readers.specs.Views.{uintsOf}
-use Rattle.filters.proofs.Turns.{adds-on}
-use Rattle.filters.proofs.coverage.add_glyphs.Needs as need
+use Rattle.adding.proofs.Turns.{adds-on}
+use Rattle.adding.proofs.coverage.add_glyphs.Needs as need
 
 pub loop-k-again : need.loop-k-again
 loop-k-again c =

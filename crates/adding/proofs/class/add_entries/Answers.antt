@@ -7,9 +7,9 @@ use lib.Dec.{eqb}
 use Rattle.std.proofs.shelf.Tests.{eq-eqb, ne-eqb}
 use Rattle.opentype.specs.Masks.{addGlyph}
 use Rattle.readers.specs.Views.{uintsOf}
-use Rattle.filters.proofs.Turns.{adds-on}
-use Rattle.filters.proofs.class.add_entries.Needs.{then-get-class, else-get-class}
-use Rattle.filters.proofs.class.add_entries.Needs as need
+use Rattle.adding.proofs.Turns.{adds-on}
+use Rattle.adding.proofs.class.add_entries.Needs.{then-get-class, else-get-class}
+use Rattle.adding.proofs.class.add_entries.Needs as need
 
 pub loop-k-again : need.loop-k-again
 loop-k-again c =

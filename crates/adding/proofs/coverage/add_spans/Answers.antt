@@ -4,8 +4,8 @@ use Prim.Native.Nat.{ℕ}
 use Rattle.opentype.specs.Spans.{addSpan}
 use Rattle.opentype.proofs.Sums.{sums-fit}
 use Rattle.tables.specs.Views.{rangesOf}
-use Rattle.filters.proofs.Turns.{adds-on}
-use Rattle.filters.proofs.coverage.add_spans.Needs as need
+use Rattle.adding.proofs.Turns.{adds-on}
+use Rattle.adding.proofs.coverage.add_spans.Needs as need
 
 pub loop-k-again : need.loop-k-again
 loop-k-again c =
