@@ -1,6 +1,7 @@
 -- What a whole walk comes to.
 -- Assumes nothing.
 use Prim.Native.Nat.{ℕ}
+use mathlib.Core.Path.{_≡_}
 use mathlib.Core.Bool.{Bool, true, false}
 use mathlib.Core.List.{List}
 use Rattle.std.specs.Options.{whenTrue}
@@ -8,7 +9,7 @@ use Rattle.std.specs.declared.option.Option.{Option}
 use Rattle.std.specs.declared.option.Option.the-variants.{Some, None}
 use Rattle.std.specs.declared.result.Result.{Result}
 use Rattle.std.specs.declared.result.Result.the-variants.{Ok, Err}
-use Rattle.opentype.specs.Draws.{Allowance, fit}
+use Rattle.opentype.specs.Draws.{Allowance, fit, rest}
 use Rattle.opentype.specs.Masks.{full}
 use Rattle.opentype.specs.Walks.{Step, settled}
 use Rattle.digest.specs.declared.budget.Exhausted.{Exhausted}
@@ -27,3 +28,8 @@ masksIn (Ok digest) = Some (digest .masks)
 -- the masks that a whole walk comes to on an allowance; none where its draws do not fit
 abbrev pub digestedBy : Step → Allowance → Option (List ℕ)
 digestedBy s left = whenTrue (fit (s .draws) left) (settled s)
+
+-- a walk was carried out: what it answered, and the allowance before and after it
+pub record Walked (s : Step) (before after : Allowance) (r : Result SetDigest Exhausted) : Type 0 where
+  pub answer : masksIn r ≡ digestedBy s before
+  pub left : after ≡ rest (s .draws) before

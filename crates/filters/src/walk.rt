@@ -4,7 +4,6 @@ ghost use Prim.Native.Nat.{ℕ};
 ghost use denote.Ref.{now};
 ghost use Rattle.std.specs.declared.option.Option.the-variants.{Some};
 ghost use Rattle.opentype.specs.Carried.{carried};
-ghost use Rattle.opentype.specs.Draws.{rest};
 ghost use Rattle.opentype.specs.Filters.{Adding, addRule, addSet, addSets};
 ghost use Rattle.opentype.specs.Masks.{none};
 ghost use Rattle.opentype.specs.Subtables.{glyphAdding};
@@ -13,7 +12,7 @@ ghost use Rattle.digest.specs.Allowances.{allowanceOf};
 ghost use Rattle.adding.specs.Walked.{outcome};
 ghost use Rattle.rules.specs.Views.{ruleOf, rulesOf, setsOf};
 ghost use Rattle.filters.specs.Seconds.{classesAdding, offsetsAdding};
-ghost use Rattle.filters.specs.Digested.{digestedBy, gathered, masksIn};
+ghost use Rattle.filters.specs.Digested.{Walked, gathered, masksIn};
 use adding::class::add_class;
 use adding::class::add_lookahead_class;
 use adding::coverage::add_coverage;
@@ -141,8 +140,7 @@ pub fn add_sets<S: Width, O: Width, W: Width, A: AddSecond>(
     adding: &A,
     budget: &mut Budget,
 ) -> Result<SetDigest, Exhausted>
-    ensures answer { λ r. ⌜ masksIn r ≡ digestedBy (addSets (A·AddSecond .adding (now (adding .entry))) (setsOf (S·Width .bytes) (O·Width .bytes) (W·Width .bytes) (now (sets .entry)))) (allowanceOf (now (budget .entry))) ⌝ }
-    ensures left { λ r. ⌜ allowanceOf (now (budget .exit)) ≡ rest (addSets (A·AddSecond .adding (now (adding .entry))) (setsOf (S·Width .bytes) (O·Width .bytes) (W·Width .bytes) (now (sets .entry))) .draws) (allowanceOf (now (budget .entry))) ⌝ }
+    ensures walked { λ r. ⌜ Walked (addSets (A·AddSecond .adding (now (adding .entry))) (setsOf (S·Width .bytes) (O·Width .bytes) (W·Width .bytes) (now (sets .entry)))) (allowanceOf (now (budget .entry))) (allowanceOf (now (budget .exit))) r ⌝ }
 {
     let mut digest = SetDigest::new();
     budget.work(u64::from(sets.len()))?;
@@ -156,8 +154,7 @@ pub fn add_rule_alone<W: Width, A: AddSecond>(
     adding: &A,
     budget: &mut Budget,
 ) -> Result<SetDigest, Exhausted>
-    ensures answer { λ r. ⌜ masksIn r ≡ digestedBy (addRule (A·AddSecond .adding (now (adding .entry))) (Some (ruleOf (W·Width .bytes) (now (rule .entry)))) none) (allowanceOf (now (budget .entry))) ⌝ }
-    ensures left { λ r. ⌜ allowanceOf (now (budget .exit)) ≡ rest (addRule (A·AddSecond .adding (now (adding .entry))) (Some (ruleOf (W·Width .bytes) (now (rule .entry)))) none .draws) (allowanceOf (now (budget .entry))) ⌝ }
+    ensures walked { λ r. ⌜ Walked (addRule (A·AddSecond .adding (now (adding .entry))) (Some (ruleOf (W·Width .bytes) (now (rule .entry)))) none) (allowanceOf (now (budget .entry))) (allowanceOf (now (budget .exit))) r ⌝ }
 {
     let mut digest = SetDigest::new();
     let walked = add_rule::<W, A>(rule, adding, &mut digest, budget);
