@@ -1,5 +1,7 @@
 //! Context subtables over classes.
 ghost use mathlib.Core.Path.{_≡_};
+ghost use Prim.Native.Nat.{ℕ};
+ghost use lib.ListN.{length, getD};
 ghost use Rattle.std.specs.Options.{mapped};
 ghost use Rattle.opentype.specs.Classes.{classesEnd};
 ghost use Rattle.opentype.specs.Matching.{rulesIn, setApplies, setFinds};
@@ -8,6 +10,7 @@ ghost use Rattle.opentype.proofs.Sounding.{filters-sound};
 ghost use Rattle.digest.specs.Allowances.{allowanceOf};
 ghost use Rattle.filters.specs.Digested.{Walked};
 ghost use Rattle.rules.specs.Views.{foundOf};
+ghost use Rattle.rule_words.specs.Fills.{entryOf, fillAnswer, fillLeaves, fillStores};
 ghost use Rattle.tables.specs.Tables.{classesOf};
 ghost use Rattle.context.specs.Classes.{classTableOf, inClasses};
 use crate::filtered::raise;
@@ -23,6 +26,7 @@ use readers::width::Three;
 use readers::width::ThreeWidth;
 use readers::width::Two;
 use readers::width::TwoWidth;
+use rule_words::fill_words;
 use rules::matching::InClass;
 use rules::matching::InClassMatch;
 use rules::rule_sets::RuleSets;
@@ -120,6 +124,21 @@ impl<'a> ChainContext2<'a> {
         } else {
             self.sets
                 .find::<Two, Two, Two, InClass, InClass, InClass>(index, &matchers, run, place)
+        }
+    }
+
+    /// Fills `words` with the words of the rule sets: the first input classes of each set's rules, modulo 64. Refused: a
+    /// buffer shorter than the sets, with nothing drawn or stored; a draw above what is left, with the words of the sets
+    /// before it stored. The rest of the buffer stays.
+    pub fn fill_words(&self, words: &mut [u64], budget: &mut Budget) -> Result<(), Refusal>
+        ensures answer { λ r. ⌜ r ≡ fillAnswer (classTableOf (now (self .entry)) .firsts) (length (now (words .entry))) (allowanceOf (now (budget .entry))) ⌝ }
+        ensures left { λ _. ⌜ allowanceOf (now (budget .exit)) ≡ fillLeaves (classTableOf (now (self .entry)) .firsts) (length (now (words .entry))) (allowanceOf (now (budget .entry))) ⌝ }
+        ensures buffer { λ _. let all = classTableOf (now (self .entry)) .firsts in ⌜ ((k : ℕ) → getD (now (words .exit)) k 0 ≡ entryOf all (fillStores all (length (now (words .entry))) (allowanceOf (now (budget .entry)))) (now (words .entry)) k) ⌝ }
+    {
+        if self.wide {
+            fill_words::<Three, Three>(&self.sets, words, budget)
+        } else {
+            fill_words::<Two, Two>(&self.sets, words, budget)
         }
     }
 
