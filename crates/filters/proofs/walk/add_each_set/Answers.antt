@@ -1,11 +1,11 @@
-use mathlib.Core.Path.{_≡_, ap, _∙_}
+use mathlib.Core.Bool.{false}
 use Prim.Native.Nat.{ℕ, _<_}
 use native.Mathlib.Omega.{arith}
 use Rattle.std.proofs.shelf.Results.{err-from-errBy}
+use Rattle.std.specs.declared.result.Result.the-variants.{Ok, Err}
 use Rattle.opentype.specs.Filters.{addSet}
 use Rattle.digest.specs.Allowances.{allowanceOf}
 use Rattle.rules.specs.Views.{setsOf}
-use Rattle.adding.specs.Walked.{outcome}
 use Rattle.adding.proofs.Turns.{walks-on, walks-out}
 use Rattle.filters.proofs.walk.add_each_set.Needs as need
 
@@ -17,10 +17,10 @@ returns-in-Break-add-set g c =
     let within : c .loop-i .i < all .count = omega arith in
     record {
       carried =
-          ap (λ r. outcome (allowanceOf (c .add-set .last .budget)) r (c .add-set .last .digest .masks)) (p .1)
-          ∙ walks-out (λ k. add (all .entry k)) (c .args .digest .now .masks) (allowanceOf (c .args .budget .now))
-          (c .loop-i .i) (c .loop-i .digest .masks) (allowanceOf (c .loop-i .budget)) (c .loop-i .inv) (all .count) within _ tt
-          (c .in-Break-add-set .ensures tt .carried);
+          rw (p .1)
+          (walks-out (λ k. add (all .entry k)) (c .args .digest .now .masks) (allowanceOf (c .args .budget .now))
+          (c .loop-i .i) (c .loop-i .digest .masks) (allowanceOf (c .loop-i .budget)) (c .loop-i .inv) (all .count) within (allowanceOf (c .add-set .last .budget)) (Err (p .0)) (c .add-set .last .digest .masks) tt
+          (c .in-Break-add-set .ensures tt .carried));
     }
 
 pub returns-then-not-branch : need.returns-then-not-branch
@@ -31,7 +31,7 @@ returns-then-not-branch g c =
     record {
       carried =
           walks-out (λ k. add (all .entry k)) (c .args .digest .now .masks) (allowanceOf (c .args .budget .now))
-          (c .loop-i .i) (c .loop-i .digest .masks) (allowanceOf (c .loop-i .budget)) (c .loop-i .inv) (all .count) within _ tt
+          (c .loop-i .i) (c .loop-i .digest .masks) (allowanceOf (c .loop-i .budget)) (c .loop-i .inv) (all .count) within (allowanceOf (c .add-set .last .budget)) (Ok false) (c .add-set .last .digest .masks) tt
           (rw (c .if-not-branch .taken) at (c .in-Continue-add-set .ensures tt .carried));
     }
 
@@ -39,5 +39,5 @@ pub loop-i-again : need.loop-i-again
 loop-i-again g c =
     let all = setsOf (g .S·Width .bytes) (g .O·Width .bytes) (g .W·Width .bytes) (c .args .sets .now) in
     walks-on (λ k. addSet (g .A·AddSecond .adding (c .args .adding .now)) (all .entry k)) (c .args .digest .now .masks) (allowanceOf (c .args .budget .now))
-    (c .loop-i .i) (c .loop-i .digest .masks) (allowanceOf (c .loop-i .budget)) (c .loop-i .inv) _
+    (c .loop-i .i) (c .loop-i .digest .masks) (allowanceOf (c .loop-i .budget)) (c .loop-i .inv) (allowanceOf (c .add-set .last .budget)) (c .add-set .last .digest .masks)
     (rw (c .if-not-branch .left) at (c .in-Continue-add-set .ensures tt .carried))
