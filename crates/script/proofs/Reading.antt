@@ -12,7 +12,8 @@ use Rattle.words.specs.Hex.{Appended}
 use Rattle.words.specs.declared.fault.Fault.the-variants.{NoMemory}
 use Rattle.std.specs.declared.result.Result.{Result}
 use Rattle.std.specs.declared.result.Result.the-variants.{Ok, Err}
-use Rattle.script.specs.Arguments.{andThen, glyphsOf}
+use Rattle.arguments.specs.Counts.{andThen}
+use Rattle.script.specs.Lines.{glyphsOf}
 use Rattle.script.specs.Meant.{cut, Inside, Read, Stored, Faulty}
 use Rattle.words.specs.Numbers.{decimalIn}
 use Rattle.words.specs.declared.fault.Fault.{Fault}

@@ -9,7 +9,7 @@ use Rattle.std.specs.declared.result.Result.the-variants.{Ok, Err}
 use Rattle.std.specs.declared.vec.Vec.{Vec}
 use Rattle.words.specs.declared.fault.Fault.{Fault}
 use Rattle.words.specs.declared.span.Span.{Span}
-use Rattle.script.specs.Arguments.{andThen}
+use Rattle.arguments.specs.Counts.{andThen}
 use Rattle.script.specs.Lines.{Said}
 use Rattle.script.specs.Meant.{CommandRead, Read}
 use Rattle.script.specs.declared.command.Command.{Command}

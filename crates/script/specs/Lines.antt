@@ -8,11 +8,13 @@ use Rattle.std.specs.declared.option.Option.{Option}
 use Rattle.std.specs.declared.option.Option.the-variants.{Some, None}
 use Rattle.std.specs.declared.result.Result.{Result}
 use Rattle.std.specs.declared.result.Result.the-variants.{Ok, Err}
+use Rattle.arguments.specs.Counts.{andThen, noneOf}
+use Rattle.arguments.specs.Parts.{openWideOf}
+use Rattle.arguments.specs.Simple.{appliesOf, hitOf, numbersOf, openOf, tableOf}
 use Rattle.words.specs.Bytes.{pieces}
 use Rattle.words.specs.Hex.{hexIn}
+use Rattle.words.specs.Numbers.{decimalIn}
 use Rattle.opening.specs.declared.wide.WideParts.{WideParts}
-use Rattle.script.specs.Arguments.{andThen, appliesOf, glyphsOf, hitOf, noneOf, numbersOf, openOf, tableOf}
-use Rattle.script.specs.Parts.{openWideOf}
 use Rattle.script.specs.Verbs.{verbIn}
 use Rattle.words.specs.Words.{wordsIn}
 use Rattle.script.specs.declared.command.Verb.{Verb}
@@ -32,6 +34,11 @@ pub data Said : Type 0 where
   opensWide : (table : List ℕ) (parts : WideParts) → Said
   hit : (subtable place : ℕ) (glyphs : List ℕ) → Said
   applies : (subtable : ℕ) (zeroContext : Bool) (glyphs : List ℕ) → Said
+
+-- any number of glyphs
+abbrev pub glyphsOf : List (List ℕ) → Result (List ℕ) Fault
+glyphsOf [] = Ok []
+glyphsOf (w ∷ ws) = andThen (decimalIn (2 ^ 32) w) (λ g. andThen (glyphsOf ws) (λ gs. Ok (g ∷ gs)))
 
 -- a command on the bytes that a word writes, with its other arguments
 abbrev pub onBytes : {X : Type 0} → Result (List ℕ × X) Fault → (List ℕ → X → Said) → Result Said Fault

@@ -2,7 +2,7 @@
 ghost use mathlib.Core.Path.{_≡_};
 ghost use denote.Ref.{now};
 ghost use Rattle.std.specs.Of.Vec.{vec-items};
-ghost use Rattle.script.specs.Arguments.{glyphsOf};
+ghost use Rattle.script.specs.Lines.{glyphsOf};
 ghost use Rattle.script.specs.Meant.{Pushed, Read};
 ghost use Rattle.words.specs.Hex.{hexIn};
 ghost use Rattle.words.specs.Words.{wordsIn};

@@ -1,8 +1,8 @@
 //! The commands of a script.
 ghost use mathlib.Core.Path.{_≡_};
-ghost use Rattle.std.specs.shelf.Text.{sameBytes};
 ghost use Rattle.script.specs.Verbs.{firstNamed, nameOf, verbIn};
 use opening::wide::WideParts;
+use words::line::same;
 use words::span::Span;
 
 /// The first word of a command.
@@ -124,11 +124,4 @@ fn first_named(word: &[u8], verbs: &[Verb]) -> Option<Verb>
         }
     }
     None
-}
-
-/// Whether two words are the same.
-pub(crate) fn same(a: &[u8], b: &[u8]) -> bool
-    ensures { λ r. ⌜ r ≡ sameBytes (now (a .entry)) (now (b .entry)) ⌝ }
-{
-    a == b
 }

@@ -1,13 +1,12 @@
 //! The words that name kinds of subtables.
 ghost use mathlib.Core.Path.{_≡_};
-ghost use Prim.Native.Nat.{ℕ};
-ghost use Rattle.script.specs.Kinds.{chainedIn, kindIn, rangeCount};
-use crate::command::same;
+ghost use Rattle.arguments.specs.Kinds.{chainedIn, kindIn, rangeCount};
 use words::fault::Fault;
+use words::line::same;
 
 /// A kind of wide subtables.
 #[derive(Clone, Copy)]
-pub enum WideKind {
+pub(crate) enum WideKind {
     Glyphs { chained: bool },
     PlainClasses,
     ChainedClasses,

@@ -8,8 +8,8 @@ use Rattle.std.specs.declared.result.Result.{Result}
 use Rattle.std.specs.declared.result.Result.the-variants.{Ok, Err}
 use Rattle.words.specs.declared.fault.Fault.{Fault}
 use Rattle.words.specs.declared.fault.Fault.the-variants.{UnknownKind}
-use Rattle.script.specs.declared.kinds.WideKind.{WideKind}
-use Rattle.script.specs.declared.kinds.WideKind.the-variants.{Glyphs, PlainClasses, ChainedClasses, Coverages}
+use Rattle.arguments.specs.declared.kinds.WideKind.{WideKind}
+use Rattle.arguments.specs.declared.kinds.WideKind.the-variants.{Glyphs, PlainClasses, ChainedClasses, Coverages}
 
 -- whether a word names chained subtables, and not plain ones
 abbrev pub chainedIn : List ℕ → Result Bool Fault

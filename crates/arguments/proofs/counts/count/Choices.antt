@@ -3,7 +3,7 @@ use mathlib.Core.Path.{_≡_}
 use denote.Ref.{now}
 use lib.ListN.{length}
 use Rattle.words.specs.Words.{wordsIn}
-use Rattle.script.proofs.arguments.count.Given as given
+use Rattle.arguments.proofs.counts.count.Given as given
 
 abbrev pub Inv-loop-word : given.InvT-loop-word
 Inv-loop-word l =

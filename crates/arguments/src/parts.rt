@@ -3,10 +3,10 @@ ghost use mathlib.Core.Path.{_≡_};
 ghost use denote.Ref.{now};
 ghost use Rattle.std.specs.Results.{Cases};
 ghost use Rattle.std.specs.declared.result.Result.the-variants.{Ok, Err};
-ghost use Rattle.script.specs.Parts.{chainedClassParts, coverageParts, glyphParts, nextRange, openWideOf, partsBy, plainClassParts};
+ghost use Rattle.arguments.specs.Parts.{chainedClassParts, coverageParts, glyphParts, nextRange, openWideOf, partsBy, plainClassParts};
 ghost use Rattle.words.specs.Words.{wordsIn};
-use crate::arguments::first_two;
-use crate::arguments::so_many;
+use crate::counts::first_two;
+use crate::counts::so_many;
 use crate::kinds::WideKind;
 use opening::wide::ByteRange;
 use opening::wide::WideParts;
@@ -92,7 +92,7 @@ fn parts_by(kind: WideKind, words: Words<'_>) -> Result<WideParts, Fault>
 }
 
 /// The word that writes a wide subtable's bytes, and its ranges.
-pub(crate) fn table_and_parts<'a>(mut words: Words<'a>) -> Result<(&'a [u8], WideParts), Fault>
+pub fn table_and_parts<'a>(mut words: Words<'a>) -> Result<(&'a [u8], WideParts), Fault>
     ensures { λ r. ⌜ Cases r (λ p. openWideOf (wordsIn (now (words .entry .rest))) ≡ Ok (now (p .0), p .1)) (λ f. openWideOf (wordsIn (now (words .entry .rest))) ≡ Err f) ⌝ }
 {
     let (kind, chained) = first_two(&mut words)?;

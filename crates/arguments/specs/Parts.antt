@@ -1,24 +1,18 @@
 -- The byte ranges in which the parts of a wide subtable lie.
 use Prim.Native.Nat.{ℕ, _+_}
 use mathlib.Core.Bool.{Bool}
-use mathlib.Core.List.{List, [], _∷_}
+use mathlib.Core.List.{List}
 use Rattle.std.specs.declared.result.Result.{Result}
-use Rattle.std.specs.declared.result.Result.the-variants.{Ok, Err}
+use Rattle.std.specs.declared.result.Result.the-variants.{Ok}
 use Rattle.opening.specs.declared.wide.ByteRange.{ByteRange}
 use Rattle.opening.specs.declared.wide.WideParts.{WideParts}
 use Rattle.opening.specs.declared.wide.WideParts.the-variants as parts
 use Rattle.words.specs.Numbers.{rangeIn}
 use Rattle.words.specs.declared.fault.Fault.{Fault}
-use Rattle.words.specs.declared.fault.Fault.the-variants.{MissingWord}
-use Rattle.script.specs.Arguments.{andThen, exactly, firstTwo}
-use Rattle.script.specs.Kinds.{kindIn, rangeCount}
-use Rattle.script.specs.declared.kinds.WideKind.{WideKind}
-use Rattle.script.specs.declared.kinds.WideKind.the-variants.{Glyphs, PlainClasses, ChainedClasses, Coverages}
-
--- the first word, with those after it
-abbrev pub nextWord : List (List ℕ) → Result (List ℕ × List (List ℕ)) Fault
-nextWord [] = Err MissingWord
-nextWord (w ∷ ws) = Ok (w, ws)
+use Rattle.arguments.specs.Counts.{andThen, exactly, firstTwo, nextWord}
+use Rattle.arguments.specs.Kinds.{kindIn, rangeCount}
+use Rattle.arguments.specs.declared.kinds.WideKind.{WideKind}
+use Rattle.arguments.specs.declared.kinds.WideKind.the-variants.{Glyphs, PlainClasses, ChainedClasses, Coverages}
 
 -- the first word as a range, with the words after it
 abbrev pub nextRange : List (List ℕ) → Result (ByteRange × List (List ℕ)) Fault
