@@ -2,7 +2,7 @@ use mathlib.Core.Path.{sym, ap, _∙_}
 use lib.ListN.{take}
 use Rattle.std.proofs.shelf.Lists.{take-at}
 use Rattle.script.proofs.Reading.{stored}
-use Rattle.script.proofs.reader.all_glyphs.Needs as need
+use Rattle.script.proofs.appended.all_glyphs.Needs as need
 
 pub returns-in-Err : need.returns-in-Err
 returns-in-Err c =

@@ -6,7 +6,7 @@ use lib.ListN.{length}
 use Rattle.std.specs.Of.Vec.{vec-items}
 use Rattle.script.proofs.Reading.{GlyphsSoFar}
 use Rattle.words.specs.Words.{wordsIn}
-use Rattle.script.proofs.reader.push_glyphs.Given as given
+use Rattle.script.proofs.appended.push_glyphs.Given as given
 
 abbrev pub Inv-loop-word : given.InvT-loop-word
 Inv-loop-word l =

@@ -1,5 +1,5 @@
 use Rattle.script.proofs.Reading.{glyphs-more}
-use Rattle.script.proofs.reader.push_glyphs.Needs as need
+use Rattle.script.proofs.appended.push_glyphs.Needs as need
 
 pub loop-word-again : need.loop-word-again
 loop-word-again c =
