@@ -1,0 +1,145 @@
+//! What the commands of a script work on.
+use answers::Refusal;
+use context::subtable::Subtable;
+use digest::budget::Budget;
+use digest::set_digest::SetDigest;
+use opening::open::open;
+use opening::open::open_wide;
+use replies::reply::Reply;
+use script::command::Command;
+use script::reader::Script;
+use std::alloc::AllocError;
+use std::alloc::Global;
+use tables::class::ClassDef;
+use tables::coverage::Coverage;
+use words::span::Span;
+
+/// What the commands so far leave: the allowance, the subtables that are listed, and those that were put aside.
+pub struct Desk<'a> {
+    budget: Budget,
+    listed: Vec<Subtable<'a>>,
+    aside: Vec<Subtable<'a>>,
+}
+
+impl<'a> Desk<'a> {
+    /// An allowance of nothing, and no subtables.
+    pub fn new(heap: Global) -> Self {
+        Desk {
+            budget: Budget::new(0, 0),
+            listed: Vec::new(heap),
+            aside: Vec::new(heap),
+        }
+    }
+
+    /// Carries one command out.
+    pub fn carry_out(&mut self, script: &'a Script, command: Command) -> Result<Reply, AllocError> {
+        let bytes = script.bytes.as_slice();
+        let runs = script.glyphs.as_slice();
+        match command {
+            Command::Coverage { table, glyph } => {
+                Ok(Reply::Index(Coverage::new(at(bytes, table)).get(glyph)))
+            }
+            Command::Class { table, glyph } => {
+                Ok(Reply::Class(ClassDef::new(at(bytes, table)).get(glyph)))
+            }
+            Command::DigestOf { glyphs } => Ok(masks_of(at(runs, glyphs))),
+            Command::DigestSpan { first, last } => Ok(Reply::of(masks_of_span(first, last))),
+            Command::Allowance { work, bytes } => Ok(self.renew(work, bytes)),
+            Command::Left => Ok(self.left()),
+            Command::Open { table, chained } => {
+                let opened = open(at(bytes, table), chained, &mut self.budget);
+                self.list(opened)
+            }
+            Command::OpenWide { table, parts } => {
+                let opened = open_wide(at(bytes, table), parts, &mut self.budget);
+                self.list(opened)
+            }
+            Command::Hit {
+                subtable,
+                place,
+                glyphs,
+            } => Ok(Reply::of(self.hit(subtable, place, at(runs, glyphs)))),
+            Command::Applies {
+                subtable,
+                zero_context,
+                glyphs,
+            } => Ok(Reply::of(self.applies(subtable, zero_context, at(runs, glyphs)))),
+        }
+    }
+
+    /// Starts over with a new allowance.
+    fn renew(&mut self, work: u64, bytes: u64) -> Reply {
+        let old = std::mem::replace(&mut self.budget, Budget::new(work, bytes));
+        old.end();
+        self.listed.clear();
+        self.aside.clear();
+        Reply::Allowance { work, bytes }
+    }
+
+    /// Reads the allowance.
+    fn left(&self) -> Reply {
+        Reply::Left {
+            work: self.budget.work_left(),
+            bytes: self.budget.bytes_left(),
+        }
+    }
+
+    /// Lists a subtable that was opened.
+    fn list(&mut self, opened: Result<Subtable<'a>, Refusal>) -> Result<Reply, AllocError> {
+        match opened {
+            Ok(subtable) => {
+                let number = self.listed.len();
+                self.listed.push(subtable)?;
+                Ok(Reply::Open(number))
+            }
+            Err(refusal) => Ok(Reply::Refused(refusal)),
+        }
+    }
+
+    /// Asks a listed subtable for the hit at a place of a run.
+    fn hit(&self, number: u32, place: usize, run: &[u32]) -> Result<Reply, Refusal> {
+        match self.listed.get(number as usize) {
+            Some(subtable) => Ok(Reply::Hit(subtable.hit(run, place)?)),
+            None => Ok(Reply::NoSubtable),
+        }
+    }
+
+    /// Asks a listed subtable whether it would apply to a list of glyphs.
+    fn applies(&self, number: u32, zero_context: bool, glyphs: &[u32]) -> Result<Reply, Refusal> {
+        match self.listed.get(number as usize) {
+            Some(subtable) => Ok(Reply::Applies(subtable.would_apply(glyphs, zero_context)?)),
+            None => Ok(Reply::NoSubtable),
+        }
+    }
+
+    /// Lets everything go.
+    pub fn end(self) {
+        let Desk {
+            budget,
+            listed: _,
+            aside: _,
+        } = self;
+        budget.end();
+    }
+}
+
+/// The elements of a buffer at a span. Every span of a script that was read lies inside its buffer.
+fn at<'a, T>(buffer: &'a [T], span: Span) -> &'a [T] {
+    buffer.get(span.start..span.end).unwrap_or(&[])
+}
+
+/// The masks of these glyphs.
+fn masks_of(glyphs: &[u32]) -> Reply {
+    let mut digest = SetDigest::new();
+    for glyph in glyphs {
+        digest.add(*glyph);
+    }
+    Reply::Masks(digest.masks())
+}
+
+/// The masks of the glyphs from `first` to `last`.
+fn masks_of_span(first: u32, last: u32) -> Result<Reply, Refusal> {
+    let mut digest = SetDigest::new();
+    digest.add_range(first, last)?;
+    Ok(Reply::Masks(digest.masks()))
+}

@@ -1,0 +1,2 @@
+//! The answers that the program prints.
+pub mod reply;
