@@ -1,0 +1,4 @@
+pub mod Sums
+pub mod Keeping
+pub mod Looking
+pub mod Scanning
