@@ -2,7 +2,7 @@
 -- Assumes nothing.
 use Prim.Native.Nat.{ℕ, zero, suc, _+_, _≤_, _<_}
 use mathlib.Core.Path.{_≡_, refl, sym, ap, ap₂, _∙_}
-use mathlib.Core.Bool.{Bool, true, false, cond}
+use mathlib.Core.Bool.{Bool, _||_}
 use mathlib.Core.List.{List, [], _∷_, _++_, append-assoc, append-nil}
 use native.Mathlib.Nat.{add-zero, add-suc}
 use native.Mathlib.Numerals.{add-one}
@@ -10,8 +10,8 @@ use native.Mathlib.Omega.{arith}
 use Rattle.std.specs.Options.{orOther}
 use Rattle.std.specs.Vec.{listOf}
 use Rattle.std.specs.declared.option.Option.{Option}
-use Rattle.opentype.specs.Matching.{firstBelow}
-use Rattle.book.specs.Scans.{countBelow, listBelow, sumBelow}
+use Rattle.opentype.specs.Matching.{anyBelow, firstBelow}
+use Rattle.book.specs.Scans.{listBelow, sumBelow}
 
 pub sum-more : (f : ℕ → ℕ) (k : ℕ) → sumBelow f (k + 1) ≡ sumBelow f k + f k
 sum-more f k = rw add-one
@@ -43,3 +43,7 @@ sum-same f g (suc n) h = ap₂ (λ a b. a + b) (sum-same f g n (λ k l. h k (ome
 pub sum-le : (f g : ℕ → ℕ) (n : ℕ) → ((k : ℕ) → k < n → f k ≤ g k) → sumBelow f n ≤ sumBelow g n
 sum-le f g zero h = omega arith
 sum-le f g (suc n) h = let i = sum-le f g n (λ k l. h k (omega arith)) in let j = h n (omega arith) in omega (arith, i, j)
+
+pub any-same : (f g : ℕ → Bool) (n : ℕ) → ((k : ℕ) → k < n → f k ≡ g k) → anyBelow f n ≡ anyBelow g n
+any-same f g zero h = refl
+any-same f g (suc n) h = ap₂ (λ a b. a || b) (h n (omega arith)) (any-same f g n (λ k l. h k (omega arith)))
