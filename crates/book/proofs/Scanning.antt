@@ -121,7 +121,7 @@ module _ (bank : List Subtable) (slots : List Slot) (run : List ℕ) (old : List
         let whole : below p ≡ all = ap below end in
         let fits : length all ≤ length old = omega (arith, s .room, s .number, ap length whole) in
         let same : _≡_ {A = Counts} (record { hits = found; tries = tries }) (record { hits = length all; tries = triesIn bank slots run }) =
-            counts _ _ _ _ (s .number ∙ ap length whole) (s .tried ∙ ap (sumBelow (triesAt bank slots run)) end) in (
+        counts _ _ _ _ (s .number ∙ ap length whole) (s .tried ∙ ap (sumBelow (triesAt bank slots run)) end) in (
           ap Ok same ∙ sym (by-room true few (le-leb (length all) (length old) fits)),
           written-is few (s .listed ∙ ap (λ x. x ++ drop (length x) old) whole ∙ ap (λ x. x ++ drop (length all) old) (sym (take-all (length old) all fits))),
         )
