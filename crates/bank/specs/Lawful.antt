@@ -36,7 +36,7 @@ digest-admits s given (Ok d) sound is = by (s .filter .can) (fit (s .filter .dra
     by true false sound is = absurd (true≢false (ap isOk is))
     by false fits sound is = absurd (true≢false (ap isOk is))
 
-past-sound : Sound pastLast
+pub past-sound : Sound pastLast
 past-sound _ = record { second = λ glyphs bare l e. absurd (false≢true e); next = λ run place l e. absurd (false≢true e) }
 
 pub one-lawful : {s : Subtable} → Sound s → Bank (s ∷ [])

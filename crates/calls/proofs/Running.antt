@@ -10,7 +10,7 @@ use Rattle.book.specs.Slots.{Kept}
 use Rattle.book.specs.declared.slots.Slot.{Slot}
 use Rattle.opentype.specs.Draws.{Allowance}
 use Rattle.opentype.specs.Meaning.{Subtable}
-use Rattle.calls.specs.Events.{Event, State, after, anew, draw, effect, filter, filterBeside, forget, newBook, opening, openingWide, scan, slotsAfter, state, wouldApply}
+use Rattle.calls.specs.Events.{Event, State, after, anew, draw, effect, filter, filterBeside, forget, newBook, opening, openingWide, scan, slotsAfter, state, wordFill, wouldApply}
 
 after-push : (bank : List Subtable) (s : State) (es : List Event) (e : Event) → after bank s (es ++ e ∷ []) ≡ effect bank e (after bank s es)
 after-push bank s [] e = refl
@@ -23,6 +23,7 @@ state-more bank s es i lt = ap (after bank s) (take-more es i anew lt) ∙ after
 kept-call : (bank : List Subtable) (e : Event) (slots : List Slot) (left : Allowance) → Kept bank slots → Kept bank (slotsAfter bank e slots left)
 kept-call bank (opening chained bytes) slots left h = h
 kept-call bank (openingWide parts bytes) slots left h = h
+kept-call bank (wordFill firsts room) slots left h = h
 kept-call bank (filter k) slots left h = kept-filter bank k left slots _ refl h
 kept-call bank (filterBeside other k) slots left h = h
 kept-call bank (draw ds) slots left h = h

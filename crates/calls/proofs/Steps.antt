@@ -20,7 +20,7 @@ use Rattle.calls.specs.Promise.{blank}
 use Rattle.calls.specs.Replied.{Replied, outcomeThen, sheet, slotsLeft}
 use Rattle.calls.specs.Sheets.{Outcome, callsOf, event, eventOf, outcomeOf}
 use Rattle.calls.specs.declared.sheet.Call.{Call}
-use Rattle.calls.specs.declared.sheet.Call.the-variants.{Anew, Filter, FilterBeside, Forget, Open, OpenWide, Scan, State as StateOf, WouldApply}
+use Rattle.calls.specs.declared.sheet.Call.the-variants.{Anew, Fill, Filter, FilterBeside, Forget, Open, OpenWide, Scan, State as StateOf, WouldApply}
 use Rattle.calls.specs.declared.sheet.Line.{Line}
 use Rattle.calls.proofs.Running.{state-more}
 
@@ -36,6 +36,7 @@ some (x ∷ l) i lt = x
 room-of : (aside : List Subtable) (call : Call) (hits words room : ℕ) (run : List ℕ) → event aside call hits words ≡ scan run room → room ≡ hits
 room-of aside (Open bytes chained) hits words room run e = let z : _≡_ {A = ℕ} 0 1 = cc in absurd (omega arith)
 room-of aside (OpenWide bytes parts) hits words room run e = let z : _≡_ {A = ℕ} 0 1 = cc in absurd (omega arith)
+room-of aside (Fill view) hits words room run e = let z : _≡_ {A = ℕ} 0 1 = cc in absurd (omega arith)
 room-of aside (Filter k) hits words room run e = let z : _≡_ {A = ℕ} 0 1 = cc in absurd (omega arith)
 room-of aside (FilterBeside k) hits words room run e = let z : _≡_ {A = ℕ} 0 1 = cc in absurd (omega arith)
 room-of aside (Forget k) hits words room run e = let z : _≡_ {A = ℕ} 0 1 = cc in absurd (omega arith)

@@ -10,7 +10,7 @@ use Rattle.std.proofs.shelf.Lists.{append-assoc}
 use Rattle.std.proofs.shelf.Tests.{cond-both, leb-true}
 use Rattle.opentype.specs.Draws.{Allowance, Counter, Draw, byteCounter, fits, leftOf, rest, taken, workCounter}
 use Rattle.opentype.specs.Meaning.{Subtable}
-use Rattle.calls.specs.Events.{Event, State, after, anew, beside, draw, drawsOf, effect, filter, filterBeside, forget, newBook, opening, openingWide, scan, state, tally, tallyOn, wouldApply}
+use Rattle.calls.specs.Events.{Event, State, after, anew, beside, draw, drawsOf, effect, filter, filterBeside, forget, newBook, opening, openingWide, scan, state, tally, tallyOn, wordFill, wouldApply}
 use Rattle.calls.specs.Promise.{AddsUp}
 use Rattle.calls.specs.Tallies.{Tally, _plus_, amounts, granted, nothing, starts, tallied}
 
@@ -69,6 +69,7 @@ module _ (bank : List Subtable) where
   draws-beside : (other : List Subtable) (e : Event) → drawsOf bank (beside other e) ≡ drawsOf other e
   draws-beside other (opening chained bytes) = refl
   draws-beside other (openingWide parts bytes) = refl
+  draws-beside other (wordFill firsts room) = refl
   draws-beside other (filter k) = refl
   draws-beside other (filterBeside third k) = refl
   draws-beside other (draw ds) = refl

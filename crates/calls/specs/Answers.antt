@@ -1,30 +1,28 @@
 -- What one call answers, and what it leaves in the lists lent to it.
 -- Assumes nothing.
-use Prim.Native.Nat.{ℕ}
+use Prim.Native.Nat.{ℕ, _+_}
 use mathlib.Core.Path.{_≡_}
-use mathlib.Core.Bool.{Bool}
-use mathlib.Core.List.{List}
+use mathlib.Core.Bool.{Bool, cond}
+use mathlib.Core.List.{List, [], _∷_}
 use lib.ListN.{length}
 use Rattle.std.specs.declared.result.Result.{Result}
 use Rattle.std.specs.declared.result.Result.the-variants.{Ok, Err}
 use Rattle.answers.specs.Questions.{answered, listRefused}
 use Rattle.answers.specs.declared.hit.Hit.{Hit}
 use Rattle.answers.specs.declared.refusal.Refusal.{Refusal}
+use Rattle.answers.specs.declared.refusal.Refusal.the-variants.{Exhausted}
 use Rattle.bank.specs.Answers.{digested}
 use Rattle.book.specs.Calls.{filterAnswer, forgetAnswer, stateAnswer}
 use Rattle.book.specs.Scans.{appliesIn, scanAnswer, scanList}
 use Rattle.book.specs.declared.slots.Slot.{Slot}
 use Rattle.opening.specs.Opened.{openedBy}
-use Rattle.opentype.specs.Draws.{Allowance, rest}
+use Rattle.opentype.specs.Draws.{Allowance, fit, rest}
 use Rattle.opentype.specs.Headers.{opened, openedWide}
 use Rattle.opentype.specs.Meaning.{Subtable, subtable}
-use Rattle.opentype.specs.Subtables.{Table}
-use Rattle.calls.specs.Events.{Event, anew, draw, drawsOf, filter, filterBeside, forget, opening, openingWide, scan, slotsAfter, state, wouldApply}
+use Rattle.rule_words.specs.Fills.{entryOf, fillAnswer, fillStores}
+use Rattle.calls.specs.Events.{Event, anew, draw, drawsOf, filter, filterBeside, forget, opening, openingWide, scan, slotsAfter, state, wordFill, wouldApply}
 use Rattle.calls.specs.declared.sheet.Answer.{Answer}
 use Rattle.calls.specs.declared.sheet.Answer.the-variants.{Applies, Digest, Done, Refused, Scanned, StateIs}
-use Rattle.opentype.specs.Draws.{fit}
-use mathlib.Core.Bool.{cond}
-use Rattle.answers.specs.declared.refusal.Refusal.the-variants.{Exhausted}
 
 -- a result as an answer
 abbrev pub told : {X : Type 0} → (X → Answer) → Result X Refusal → Answer
@@ -43,6 +41,7 @@ digestOf masks = Digest (record { masks = masks })
 abbrev pub answerTo : (bank : List Subtable) → Event → List Slot → (left : Allowance) → Answer
 answerTo bank (opening chained bytes) slots left = done (openedBy (opened chained bytes) left)
 answerTo bank (openingWide parts bytes) slots left = done (openedBy (openedWide parts bytes) left)
+answerTo bank (wordFill firsts room) slots left = done (fillAnswer firsts room left)
 answerTo bank (filter k) slots left = done (filterAnswer bank k left)
 answerTo bank (filterBeside other k) slots left = told digestOf (digested (subtable other k) left)
 answerTo bank (draw ds) slots left = cond (fit ds left) Done (Refused Exhausted)
@@ -56,6 +55,7 @@ answerTo bank anew slots left = Done
 abbrev pub hitsAfter : (bank : List Subtable) → Event → List Slot → (lent : List Hit) → List Hit
 hitsAfter bank (opening chained bytes) slots lent = lent
 hitsAfter bank (openingWide parts bytes) slots lent = lent
+hitsAfter bank (wordFill firsts room) slots lent = lent
 hitsAfter bank (filter k) slots lent = lent
 hitsAfter bank (filterBeside other k) slots lent = lent
 hitsAfter bank (draw ds) slots lent = lent
@@ -65,9 +65,24 @@ hitsAfter bank (wouldApply glyphs bare) slots lent = lent
 hitsAfter bank (scan run room) slots lent = scanList bank slots run lent
 hitsAfter bank anew slots lent = lent
 
--- the words that were lent to a call, then
+-- f k, f (k + 1), .., as many as a list has entries
+abbrev pub entriesFrom : (ℕ → ℕ) → (k : ℕ) → List ℕ → List ℕ
+entriesFrom f k [] = []
+entriesFrom f k (x ∷ xs) = f k ∷ entriesFrom f (k + 1) xs
+
+-- the words that were lent to a call, then: those of a fill that are stored come first, and the others stay
 abbrev pub wordsAfter : Event → (left : Allowance) → (lent : List ℕ) → List ℕ
-wordsAfter e left lent = lent
+wordsAfter (opening chained bytes) left lent = lent
+wordsAfter (openingWide parts bytes) left lent = lent
+wordsAfter (wordFill firsts room) left lent = entriesFrom (entryOf firsts (fillStores firsts room left) lent) 0 lent
+wordsAfter (filter k) left lent = lent
+wordsAfter (filterBeside other k) left lent = lent
+wordsAfter (draw ds) left lent = lent
+wordsAfter (forget k) left lent = lent
+wordsAfter (state k) left lent = lent
+wordsAfter (wouldApply glyphs bare) left lent = lent
+wordsAfter (scan run room) left lent = lent
+wordsAfter anew left lent = lent
 
 -- a call made of the slots and of the allowance what its kind makes of them
 pub record Does (bank : List Subtable) (e : Event) (slots slots′ : List Slot) (left left′ : Allowance) : Type 0 where

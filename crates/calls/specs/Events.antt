@@ -8,11 +8,14 @@ use lib.Dec.{leb}
 use lib.ListN.{replicate}
 use Rattle.std.specs.declared.option.Option.{Option}
 use Rattle.std.specs.declared.option.Option.the-variants.{Some, None}
+use Rattle.opentype.specs.Bytes.{Array}
 use Rattle.opentype.specs.Draws.{Allowance, Draw, rest}
 use Rattle.opentype.specs.Headers.{WideParts, opened, openedWide}
 use Rattle.opentype.specs.Meaning.{Subtable, subtable}
 use Rattle.opentype.specs.Openings.{openingDraws}
+use Rattle.opentype.specs.Rules.{RuleSet}
 use Rattle.opentype.specs.Subtables.{Table}
+use Rattle.opentype.specs.Words.{wordDraws}
 use Rattle.book.specs.Calls.{filterSlots, forgetSlots}
 use Rattle.book.specs.Slots.{bare}
 use Rattle.book.specs.declared.slots.Slot.{Slot}
@@ -22,6 +25,8 @@ use Rattle.calls.specs.Tallies.{Tally, starts, tallied}
 pub data Event : Type 0 where
   opening : (chained : Bool) → (bytes : List ℕ) → Event
   openingWide : (parts : WideParts) → (bytes : List ℕ) → Event
+  -- a class subtable by the first input of each rule of its sets
+  wordFill : (firsts : Array (RuleSet (Option ℕ))) → (room : ℕ) → Event
   filter : (k : ℕ) → Event
   -- a filter of another bank, by what that bank means
   filterBeside : (bank : List Subtable) → (k : ℕ) → Event
@@ -45,10 +50,15 @@ tableDraws (Some t) = openingDraws t
 abbrev pub filterDraws : Subtable → List Draw
 filterDraws s = cond (s .filter .can) (s .filter .draws) []
 
+-- a word fill draws nothing where the buffer is shorter than the sets
+abbrev pub fillDraws : (firsts : Array (RuleSet (Option ℕ))) → (room : ℕ) → List Draw
+fillDraws firsts room = cond (leb (firsts .count) room) (wordDraws firsts) []
+
 -- the draws that a call sets out to make, in order, where `bank` is the book's
 abbrev pub drawsOf : (bank : List Subtable) → Event → List Draw
 drawsOf bank (opening chained bytes) = tableDraws (opened chained bytes)
 drawsOf bank (openingWide parts bytes) = tableDraws (openedWide parts bytes)
+drawsOf bank (wordFill firsts room) = fillDraws firsts room
 drawsOf bank (filter k) = filterDraws (subtable bank k)
 drawsOf bank (filterBeside other k) = filterDraws (subtable other k)
 drawsOf bank (draw ds) = ds
@@ -70,6 +80,7 @@ tally bank given es = tallyOn bank (starts given) es
 abbrev pub beside : (other : List Subtable) → Event → Event
 beside other (opening chained bytes) = opening chained bytes
 beside other (openingWide parts bytes) = openingWide parts bytes
+beside other (wordFill firsts room) = wordFill firsts room
 beside other (filter k) = filterBeside other k
 beside other (filterBeside third k) = filterBeside third k
 beside other (draw ds) = draw ds
@@ -92,6 +103,7 @@ newBook given = record { slots = replicate 32 bare; left = given }
 abbrev pub slotsAfter : (bank : List Subtable) → Event → List Slot → (left : Allowance) → List Slot
 slotsAfter bank (opening chained bytes) slots left = slots
 slotsAfter bank (openingWide parts bytes) slots left = slots
+slotsAfter bank (wordFill firsts room) slots left = slots
 slotsAfter bank (filter k) slots left = filterSlots bank k left slots
 slotsAfter bank (filterBeside other k) slots left = slots
 slotsAfter bank (draw ds) slots left = slots

@@ -6,19 +6,21 @@ use denote.Ref.{now}
 use lib.ListN.{length}
 use Rattle.std.specs.Of.Vec.{vec-items}
 use Rattle.answers.specs.declared.hit.Hit.{Hit}
+use Rattle.context.specs.Classes.{classTableOf}
 use Rattle.opening.specs.Wide.{partsOf}
 use Rattle.opentype.specs.Draws.{Allowance}
 use Rattle.opentype.specs.Meaning.{Subtable}
-use Rattle.calls.specs.Events.{Event, anew, filter, filterBeside, forget, opening, openingWide, scan, state, wouldApply}
+use Rattle.calls.specs.Events.{Event, anew, filter, filterBeside, forget, opening, openingWide, scan, state, wordFill, wouldApply}
 use Rattle.calls.specs.declared.sheet.Answer.{Answer}
 use Rattle.calls.specs.declared.sheet.Call.{Call}
-use Rattle.calls.specs.declared.sheet.Call.the-variants.{Anew, Filter, FilterBeside, Forget, Open, OpenWide, Scan, State, WouldApply}
+use Rattle.calls.specs.declared.sheet.Call.the-variants.{Anew, Fill, Filter, FilterBeside, Forget, Open, OpenWide, Scan, State, WouldApply}
 use Rattle.calls.specs.declared.sheet.Line.{Line}
 
 -- a call, where lists with this room for hits and for words are lent to it; `aside` is what the bank beside the book means
 abbrev pub event : (aside : List Subtable) → Call → (hits words : ℕ) → Event
 event aside (Open bytes chained) hits words = opening chained (now bytes)
 event aside (OpenWide bytes parts) hits words = openingWide (partsOf parts) (now bytes)
+event aside (Fill view) hits words = wordFill (classTableOf (now view) .firsts) words
 event aside (Filter k) hits words = filter k
 event aside (FilterBeside k) hits words = filterBeside aside k
 event aside (Forget k) hits words = forget k

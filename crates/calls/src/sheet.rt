@@ -2,6 +2,7 @@
 use answers::Hit;
 use answers::Refusal;
 use book::Counts;
+use context::classes::ChainContext2;
 use digest::set_digest::SetDigest;
 use opening::wide::WideParts;
 
@@ -12,6 +13,8 @@ pub enum Call<'a> {
     Open(&'a [u8], bool),
     /// Opens a subtable of a wide kind: its bytes, and where its parts lie.
     OpenWide(&'a [u8], WideParts),
+    /// Fills the words of a class subtable's rule sets into the line's words.
+    Fill(&'a ChainContext2<'a>),
     /// Filters a subtable of the book.
     Filter(u32),
     /// Filters a subtable of the bank beside the book.

@@ -1,3 +1,4 @@
+pub mod Filtered
 pub mod Glyphs
 pub mod Classes
 pub mod Coverages

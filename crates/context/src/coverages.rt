@@ -3,10 +3,22 @@ ghost use mathlib.Core.Path.{_≡_};
 ghost use Rattle.std.specs.Options.{mapped};
 ghost use Rattle.std.specs.declared.option.Option.the-variants.{Some};
 ghost use Rattle.opentype.specs.Coverages.{covers};
-ghost use Rattle.opentype.specs.Matching.{applies as appliesIn, finds, ruleApplies, ruleFinds};
-ghost use Rattle.opentype.specs.Subtables.{coverageContext};
+ghost use Rattle.opentype.specs.Matching.{ruleApplies, ruleFinds};
+ghost use Rattle.opentype.specs.Subtables.{byCoverage, coverageStep, meaning};
+ghost use Rattle.opentype.proofs.Sounding.{filters-sound};
+ghost use Rattle.digest.specs.Allowances.{allowanceOf};
+ghost use Rattle.filters.specs.Digested.{Walked};
 ghost use Rattle.rules.specs.Views.{foundOf};
 ghost use Rattle.context.specs.Coverages.{coverMatchers, coverageTableOf};
+use crate::filtered::raise;
+use answers::Refusal;
+use bank::subtable::ContextSubtable;
+use digest::budget::Budget;
+use digest::budget::Exhausted;
+use digest::set_digest::SetDigest;
+use filters::walk::SecondCoverage;
+use filters::walk::SecondCoverageAdds;
+use filters::walk::add_rule_alone;
 use readers::width::Three;
 use readers::width::ThreeWidth;
 use readers::width::Two;
@@ -28,11 +40,12 @@ pub struct ChainContext3<'a> {
     pub wide: bool,
 }
 
-impl<'a> ChainContext3<'a> {
-    /// Whether the subtable would apply to `glyphs`; where `zero_context`, only without backtrack and lookahead.
-    pub fn applies(&self, glyphs: &[u32], zero_context: bool) -> bool
-        ensures { λ r. ⌜ r ≡ appliesIn (coverageContext (coverageTableOf (now (self .entry)))) (now (glyphs .entry)) «zero_context» ⌝ }
-    {
+pub impl<'a> ContextSubtable for ChainContext3<'a> as ChainContext3Subtable {
+    ghost table = { λ view. meaning (byCoverage (coverageTableOf view)) };
+
+    ghost sound = { λ view. filters-sound (byCoverage (coverageTableOf view)) };
+
+    fn applies(&self, glyphs: &[u32], zero_context: bool) -> bool {
         match glyphs.first() {
             Some(first) => {
                 self.coverage.covers(*first) && self.rule_applies(glyphs, zero_context)
@@ -41,6 +54,23 @@ impl<'a> ChainContext3<'a> {
         }
     }
 
+    fn find(&self, run: &[u32], place: usize) -> Option<Found> {
+        if place >= run.len() || !self.coverage.covers(run[place]) {
+            return None;
+        }
+        self.rule_finds(run, place)
+    }
+
+    fn can_filter(&self) -> bool {
+        true
+    }
+
+    fn digest(&self, budget: &mut Budget) -> Result<SetDigest, Refusal> {
+        raise(self.seconds(budget))
+    }
+}
+
+impl<'a> ChainContext3<'a> {
     fn rule_applies(&self, glyphs: &[u32], zero_context: bool) -> bool
         ensures { λ r. ⌜ r ≡ ruleApplies covers «zero_context» (now (glyphs .entry)) (Some (coverageTableOf (now (self .entry)) .rule)) ⌝ }
     {
@@ -52,16 +82,6 @@ impl<'a> ChainContext3<'a> {
             self.rule
                 .applies::<Two, CoveredBy>(&input, glyphs, zero_context)
         }
-    }
-
-    /// What the rule tells at `place` of `run`, where it matches there.
-    pub fn find(&self, run: &[u32], place: usize) -> Option<Found>
-        ensures { λ r. ⌜ mapped foundOf r ≡ finds (coverageContext (coverageTableOf (now (self .entry)))) (now (run .entry)) place ⌝ }
-    {
-        if place >= run.len() || !self.coverage.covers(run[place]) {
-            return None;
-        }
-        self.rule_finds(run, place)
     }
 
     fn rule_finds(&self, run: &[u32], place: usize) -> Option<Found>
@@ -78,6 +98,18 @@ impl<'a> ChainContext3<'a> {
         } else {
             self.rule
                 .find::<Two, CoveredBy, CoveredBy, CoveredBy>(&matchers, run, place)
+        }
+    }
+
+    /// The glyphs that may follow the first one in a match.
+    fn seconds(&self, budget: &mut Budget) -> Result<SetDigest, Exhausted>
+        ensures { λ r. ⌜ Walked (coverageStep (coverageTableOf (now (self .entry)))) (allowanceOf (now (budget .entry))) (allowanceOf (now (budget .exit))) r ⌝ }
+    {
+        let adding = SecondCoverage(self.bytes);
+        if self.wide {
+            add_rule_alone::<Three, SecondCoverage>(&self.rule, &adding, budget)
+        } else {
+            add_rule_alone::<Two, SecondCoverage>(&self.rule, &adding, budget)
         }
     }
 }

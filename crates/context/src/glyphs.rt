@@ -1,10 +1,22 @@
 //! Context subtables over glyphs.
 ghost use mathlib.Core.Path.{_≡_};
 ghost use Rattle.std.specs.Options.{mapped};
-ghost use Rattle.opentype.specs.Matching.{applies as appliesIn, finds, rulesIn, setApplies, setFinds};
-ghost use Rattle.opentype.specs.Subtables.{glyphContext, same};
+ghost use Rattle.opentype.specs.Matching.{rulesIn, setApplies, setFinds};
+ghost use Rattle.opentype.specs.Subtables.{byGlyph, glyphStep, meaning, same};
+ghost use Rattle.opentype.proofs.Sounding.{filters-sound};
+ghost use Rattle.digest.specs.Allowances.{allowanceOf};
+ghost use Rattle.filters.specs.Digested.{Walked};
 ghost use Rattle.rules.specs.Views.{foundOf};
 ghost use Rattle.context.specs.Glyphs.{glyphTable, sameGlyphs};
+use crate::filtered::raise;
+use answers::Refusal;
+use bank::subtable::ContextSubtable;
+use digest::budget::Budget;
+use digest::budget::Exhausted;
+use digest::set_digest::SetDigest;
+use filters::walk::SecondGlyph;
+use filters::walk::SecondGlyphAdds;
+use filters::walk::add_sets;
 use readers::width::Three;
 use readers::width::ThreeWidth;
 use readers::width::Two;
@@ -25,11 +37,12 @@ pub struct ChainContext1<'a> {
     pub wide: bool,
 }
 
-impl<'a> ChainContext1<'a> {
-    /// Whether the subtable would apply to `glyphs`; where `zero_context`, only by rules without backtrack and lookahead.
-    pub fn applies(&self, glyphs: &[u32], zero_context: bool) -> bool
-        ensures { λ r. ⌜ r ≡ appliesIn (glyphContext (glyphTable (now (self .entry)))) (now (glyphs .entry)) «zero_context» ⌝ }
-    {
+pub impl<'a> ContextSubtable for ChainContext1<'a> as ChainContext1Subtable {
+    ghost table = { λ view. meaning (byGlyph (glyphTable view)) };
+
+    ghost sound = { λ view. filters-sound (byGlyph (glyphTable view)) };
+
+    fn applies(&self, glyphs: &[u32], zero_context: bool) -> bool {
         match glyphs.first() {
             Some(first) => match self.coverage.get(*first) {
                 Some(index) => self.set_applies(index, glyphs, zero_context),
@@ -39,6 +52,24 @@ impl<'a> ChainContext1<'a> {
         }
     }
 
+    fn find(&self, run: &[u32], place: usize) -> Option<Found> {
+        if place >= run.len() {
+            return None;
+        }
+        let index = self.coverage.get(run[place])?;
+        self.set_finds(index, run, place)
+    }
+
+    fn can_filter(&self) -> bool {
+        true
+    }
+
+    fn digest(&self, budget: &mut Budget) -> Result<SetDigest, Refusal> {
+        raise(self.seconds(budget))
+    }
+}
+
+impl<'a> ChainContext1<'a> {
     fn set_applies(&self, index: u32, glyphs: &[u32], zero_context: bool) -> bool
         ensures { λ r. ⌜ r ≡ setApplies same «zero_context» (now (glyphs .entry)) (rulesIn (glyphTable (now (self .entry)) .sets) index) ⌝ }
     {
@@ -63,17 +94,6 @@ impl<'a> ChainContext1<'a> {
                 zero_context,
             ),
         }
-    }
-
-    /// What the first rule that matches at `place` of `run` tells.
-    pub fn find(&self, run: &[u32], place: usize) -> Option<Found>
-        ensures { λ r. ⌜ mapped foundOf r ≡ finds (glyphContext (glyphTable (now (self .entry)))) (now (run .entry)) place ⌝ }
-    {
-        if place >= run.len() {
-            return None;
-        }
-        let index = self.coverage.get(run[place])?;
-        self.set_finds(index, run, place)
     }
 
     fn set_finds(&self, index: u32, run: &[u32], place: usize) -> Option<Found>
@@ -104,6 +124,22 @@ impl<'a> ChainContext1<'a> {
                 run,
                 place,
             ),
+        }
+    }
+
+    /// The glyphs that may follow the first one in a match.
+    fn seconds(&self, budget: &mut Budget) -> Result<SetDigest, Exhausted>
+        ensures { λ r. ⌜ Walked (glyphStep (glyphTable (now (self .entry)))) (allowanceOf (now (budget .entry))) (allowanceOf (now (budget .exit))) r ⌝ }
+    {
+        let sets = &self.sets;
+        match (self.wide, sets.chained) {
+            (false, _) => add_sets::<Two, Two, Two, SecondGlyph>(sets, &SecondGlyph, budget),
+            (true, false) => {
+                add_sets::<Three, Two, Three, SecondGlyph>(sets, &SecondGlyph, budget)
+            }
+            (true, true) => {
+                add_sets::<Three, Three, Three, SecondGlyph>(sets, &SecondGlyph, budget)
+            }
         }
     }
 }

@@ -1,17 +1,22 @@
 //! A context subtable of any kind.
 ghost use mathlib.Core.Path.{_≡_};
-ghost use lib.ListN.{length};
-ghost use Rattle.std.specs.Options.{mapped};
-ghost use Rattle.answers.specs.Questions.{answered, listRefused, placeRefused};
-ghost use Rattle.rules.specs.Views.{foundOf};
-ghost use Rattle.context.specs.Meanings.{matcherIn, told};
+ghost use Rattle.opentype.proofs.Sounding.{filters-sound};
+ghost use Rattle.bank.specs.Answers.{hitAt, wouldApply};
+ghost use Rattle.context.specs.Meanings.{meaningOf, tableOf};
 use crate::classes::ChainContext2;
+use crate::classes::ChainContext2Subtable;
 use crate::coverages::ChainContext3;
+use crate::coverages::ChainContext3Subtable;
 use crate::glyphs::ChainContext1;
+use crate::glyphs::ChainContext1Subtable;
 use answers::Hit;
 use answers::Refusal;
 use answers::ask_list;
 use answers::ask_place;
+use bank::subtable::ContextSubtable;
+use bank::subtable::hit_of;
+use digest::budget::Budget;
+use digest::set_digest::SetDigest;
 use rules::walk::Found;
 
 /// A subtable of whichever kind its opening gave. It cannot be copied.
@@ -22,11 +27,12 @@ pub enum Subtable<'a> {
     Coverages(ChainContext3<'a>),
 }
 
-impl<'a> Subtable<'a> {
-    /// Whether the subtable would apply to `glyphs`; where `zero_context`, only by rules without backtrack and lookahead.
-    pub fn applies(&self, glyphs: &[u32], zero_context: bool) -> bool
-        ensures { λ r. ⌜ r ≡ matcherIn (now (self .entry)) .applies (now (glyphs .entry)) «zero_context» ⌝ }
-    {
+pub impl<'a> ContextSubtable for Subtable<'a> as AnySubtable {
+    ghost table = { λ view. meaningOf view };
+
+    ghost sound = { λ view. filters-sound (tableOf view) };
+
+    fn applies(&self, glyphs: &[u32], zero_context: bool) -> bool {
         match self {
             Subtable::Glyphs(view) => view.applies(glyphs, zero_context),
             Subtable::Classes(view) => view.applies(glyphs, zero_context),
@@ -34,10 +40,7 @@ impl<'a> Subtable<'a> {
         }
     }
 
-    /// What the first rule that matches at `place` of `run` tells.
-    pub fn find(&self, run: &[u32], place: usize) -> Option<Found>
-        ensures { λ r. ⌜ mapped foundOf r ≡ matcherIn (now (self .entry)) .finds (now (run .entry)) place ⌝ }
-    {
+    fn find(&self, run: &[u32], place: usize) -> Option<Found> {
         match self {
             Subtable::Glyphs(view) => view.find(run, place),
             Subtable::Classes(view) => view.find(run, place),
@@ -45,9 +48,28 @@ impl<'a> Subtable<'a> {
         }
     }
 
-    /// Would the subtable apply to `glyphs`? Refused: an empty list, and one of more than 65,536 glyphs.
+    fn can_filter(&self) -> bool {
+        match self {
+            Subtable::Glyphs(view) => view.can_filter(),
+            Subtable::Classes(view) => view.can_filter(),
+            Subtable::Coverages(view) => view.can_filter(),
+        }
+    }
+
+    fn digest(&self, budget: &mut Budget) -> Result<SetDigest, Refusal> {
+        match self {
+            Subtable::Glyphs(view) => view.digest(budget),
+            Subtable::Classes(view) => view.digest(budget),
+            Subtable::Coverages(view) => view.digest(budget),
+        }
+    }
+}
+
+impl<'a> Subtable<'a> {
+    /// Would the subtable apply to `glyphs`; where `zero_context`, only by rules without backtrack and lookahead? Refused:
+    /// an empty list, and one of more than 65,536 glyphs.
     pub fn would_apply(&self, glyphs: &[u32], zero_context: bool) -> Result<bool, Refusal>
-        ensures { λ r. ⌜ r ≡ answered (listRefused (length (now (glyphs .entry)))) (matcherIn (now (self .entry)) .applies (now (glyphs .entry)) «zero_context») ⌝ }
+        ensures { λ r. ⌜ r ≡ wouldApply (meaningOf (now (self .entry))) (now (glyphs .entry)) «zero_context» ⌝ }
     {
         ask_list(glyphs)?;
         Ok(self.applies(glyphs, zero_context))
@@ -56,18 +78,9 @@ impl<'a> Subtable<'a> {
     /// The hit at `place` of `run`, told as subtable 0. Refused: a run of more than 65,536 glyphs, and a place that is
     /// not in it.
     pub fn hit(&self, run: &[u32], place: usize) -> Result<Option<Hit>, Refusal>
-        ensures { λ r. ⌜ r ≡ answered (placeRefused (length (now (run .entry))) place) (mapped (told place 0) (matcherIn (now (self .entry)) .finds (now (run .entry)) place)) ⌝ }
+        ensures { λ r. ⌜ r ≡ hitAt (meaningOf (now (self .entry))) 0 (now (run .entry)) place ⌝ }
     {
         ask_place(run, place)?;
-        match self.find(run, place) {
-            Some(found) => Ok(Some(Hit {
-                place,
-                subtable: 0,
-                length: found.length,
-                records: found.records,
-                record_count: found.record_count,
-            })),
-            None => Ok(None),
-        }
+        Ok(hit_of(self.find(run, place), place, 0))
     }
 }

@@ -115,6 +115,10 @@ fn ask<B: Filtering, O: Filtering>(
             let answer = opened(open_wide(bytes, parts, budget));
             Asked { book, answer }
         }
+        Call::Fill(view) => {
+            let answer = done(view.fill_words(words, budget));
+            Asked { book, answer }
+        }
         Call::Filter(k) => {
             let answer = done(book.filter(k, budget));
             Asked { book, answer }

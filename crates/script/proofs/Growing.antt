@@ -20,7 +20,7 @@ use Rattle.words.specs.Words.{wordsIn}
 use Rattle.words.specs.declared.fault.Fault.{Fault}
 use Rattle.words.specs.declared.fault.Fault.the-variants.{NoMemory}
 use Rattle.words.specs.declared.span.Span.{Span}
-use Rattle.script.specs.Lines.{Said, coverage, class, digestOf, saidBy, wordsSaid, lineSaid, scriptIn}
+use Rattle.script.specs.Lines.{Said, coverage, class, digestOf, opens, opensWide, hit, applies, saidBy, wordsSaid, lineSaid, scriptIn}
 use Rattle.script.specs.Meant.{cut, Inside, meant, said, Stands, LineStands, Faulty, CommandRead, Sound, saidOf}
 use Rattle.script.specs.Verbs.{verbIn}
 use Rattle.script.specs.declared.command.Command.{Command}
@@ -43,6 +43,10 @@ module _ (bs gs x y : List ℕ) where
   meant-grown (command.DigestSpan first last) h = refl
   meant-grown (command.Allowance work amount) h = refl
   meant-grown command.Left h = refl
+  meant-grown (command.Open table chained) h = ap (λ t. opens t chained) (cut-grown table bs x h)
+  meant-grown (command.OpenWide table parts) h = ap (λ t. opensWide t parts) (cut-grown table bs x h)
+  meant-grown (command.Hit subtable place at) h = ap (hit subtable place) (cut-grown at gs y h)
+  meant-grown (command.Applies subtable zeroContext at) h = ap (applies subtable zeroContext) (cut-grown at gs y h)
 
   stands-grown : (c : Command) → Stands bs gs c → Stands (bs ++ x) (gs ++ y) c
   stands-grown (command.Coverage table glyph) h = inside-grown table bs x h
@@ -51,6 +55,10 @@ module _ (bs gs x y : List ℕ) where
   stands-grown (command.DigestSpan first last) h = tt
   stands-grown (command.Allowance work amount) h = tt
   stands-grown command.Left h = tt
+  stands-grown (command.Open table chained) h = inside-grown table bs x h
+  stands-grown (command.OpenWide table parts) h = inside-grown table bs x h
+  stands-grown (command.Hit subtable place at) h = inside-grown at gs y h
+  stands-grown (command.Applies subtable zeroContext at) h = inside-grown at gs y h
 
   lines-grown : (ls : List (Result Command Fault)) → All (LineStands bs gs) ls → map (said (bs ++ x) (gs ++ y)) ls ≡ map (said bs gs) ls
   lines-grown [] h = refl

@@ -1,3 +1,4 @@
 mod Growing
 mod Naming
 mod Reading
+mod Refusing

@@ -8,12 +8,13 @@ use Rattle.std.proofs.shelf.Lists.{take-all, take-at, drop-at}
 use Rattle.std.specs.Of.Vec.{vec-items, vec-len}
 use Rattle.std.specs.declared.alloc.Global.{Global}
 use Rattle.std.specs.declared.vec.Vec.{Vec}
-use Rattle.words.specs.Hex.{Appended, hexIn}
+use Rattle.words.specs.Hex.{Appended}
 use Rattle.words.specs.declared.fault.Fault.the-variants.{NoMemory}
 use Rattle.std.specs.declared.result.Result.{Result}
 use Rattle.std.specs.declared.result.Result.the-variants.{Ok, Err}
-use Rattle.script.specs.Lines.{andThen, glyphsOf, tableOf, twoOf}
-use Rattle.script.specs.Meant.{cut, Inside, Stored, Faulty}
+use Rattle.arguments.specs.Counts.{andThen}
+use Rattle.script.specs.Lines.{glyphsOf}
+use Rattle.script.specs.Meant.{cut, Inside, Read, Stored, Faulty}
 use Rattle.words.specs.Numbers.{decimalIn}
 use Rattle.words.specs.declared.fault.Fault.{Fault}
 use Rattle.words.specs.declared.span.Span.{Span}
@@ -72,18 +73,9 @@ stored xs before items s grown first last =
     }
 
 -- what `hex` says of the bytes that a word writes
-pub hex-ok : (d : Result (List ℕ) Fault) (before items : Vec ℕ Global) (s : Span) → Appended d before items (Ok s) → (bs : List ℕ) × (d ≡ Ok bs) × Stored bs (vec-items before) (vec-items items) s
-hex-ok (Ok bs) before items s h =
+pub hex-read : (d : Result (List ℕ) Fault) (before items : Vec ℕ Global) (r : Result Span Fault) → Appended d before items r → Read d (vec-items before) (vec-items items) r
+hex-read (Ok bs) before items (Ok s) h =
     (bs, refl, stored bs (vec-items before) (vec-items items) s (h .0) (h .1 ∙ before .ok .0) (h .2 ∙ items .ok .0))
-hex-ok (Err f) before items s h = let z : _≡_ {A = ℕ} 0 1 = cc in absurd (omega arith)
-
-pub hex-fault : (d : Result (List ℕ) Fault) (before items : Vec ℕ Global) (f : Fault) → Appended d before items (Err f) → (vec-items items ≡ vec-items before) × Faulty d f
-hex-fault (Ok bs) before items f h = (h .0, λ other. absurd (other (h .1)))
-hex-fault (Err e) before items f h = let same : e ≡ f = cc in (h .0, λ other. ap Err same)
-
-module _ (ws : List (List ℕ)) (a b : List ℕ) (g : ℕ) (two : twoOf ws ≡ Ok (a, b)) (glyph : Ok g ≡ decimalIn (2 ^ 32) b) where
-  pub table-ok : (bs : List ℕ) → hexIn a ≡ Ok bs → tableOf ws ≡ Ok (bs, g)
-  table-ok bs e = rw (two, ← glyph, e) refl
-
-  pub table-fault : (f : Fault) → hexIn a ≡ Err f → tableOf ws ≡ Err f
-  table-fault f e = rw (two, ← glyph, e) refl
+hex-read (Ok bs) before items (Err f) h = (h .0, λ other. absurd (other (h .1)))
+hex-read (Err e) before items (Ok s) h = let z : _≡_ {A = ℕ} 0 1 = cc in absurd (omega arith)
+hex-read (Err e) before items (Err f) h = let same : e ≡ f = cc in (h .0, λ other. ap Err same)

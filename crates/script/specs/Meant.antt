@@ -8,7 +8,7 @@ use Rattle.std.specs.Results.{Cases}
 use Rattle.std.specs.shelf.Lists.{All}
 use Rattle.std.specs.declared.result.Result.{Result}
 use Rattle.std.specs.declared.result.Result.the-variants.{Ok, Err}
-use Rattle.script.specs.Lines.{Said, coverage, class, digestOf, digestSpan, allowance, left}
+use Rattle.script.specs.Lines.{Said, coverage, class, digestOf, digestSpan, allowance, left, opens, opensWide, hit, applies}
 use Rattle.script.specs.declared.command.Command.{Command}
 use Rattle.script.specs.declared.command.Command.the-variants as command
 use Rattle.words.specs.declared.fault.Fault.{Fault}
@@ -31,6 +31,10 @@ meant bytes glyphs (command.DigestOf at) = digestOf (cut at glyphs)
 meant bytes glyphs (command.DigestSpan first last) = digestSpan first last
 meant bytes glyphs (command.Allowance work amount) = allowance work amount
 meant bytes glyphs command.Left = left
+meant bytes glyphs (command.Open table chained) = opens (cut table bytes) chained
+meant bytes glyphs (command.OpenWide table parts) = opensWide (cut table bytes) parts
+meant bytes glyphs (command.Hit subtable place at) = hit subtable place (cut at glyphs)
+meant bytes glyphs (command.Applies subtable zeroContext at) = applies subtable zeroContext (cut at glyphs)
 
 -- a line with what stands at its spans
 abbrev pub said : (bytes glyphs : List ℕ) → Result Command Fault → Result Said Fault
@@ -49,6 +53,10 @@ Stands bytes glyphs (command.DigestOf at) = Inside at glyphs
 Stands bytes glyphs (command.DigestSpan first last) = Unit {0}
 Stands bytes glyphs (command.Allowance work amount) = Unit {0}
 Stands bytes glyphs command.Left = Unit {0}
+Stands bytes glyphs (command.Open table chained) = Inside table bytes
+Stands bytes glyphs (command.OpenWide table parts) = Inside table bytes
+Stands bytes glyphs (command.Hit subtable place at) = Inside at glyphs
+Stands bytes glyphs (command.Applies subtable zeroContext at) = Inside at glyphs
 
 abbrev pub LineStands : (bytes glyphs : List ℕ) → Result Command Fault → Type 0
 LineStands bytes glyphs (Ok c) = Stands bytes glyphs c
@@ -70,21 +78,17 @@ pub record Stored (xs before after : List ℕ) (s : Span) : Type 0 where
   pub at : cut s after ≡ xs
   pub inside : Inside s after
 
-abbrev pub GlyphsRead : Result (List ℕ) Fault → (before after : List ℕ) → Result Span Fault → Type 0
-GlyphsRead read before after r =
+-- numbers that were read are appended; a fault leaves the buffer as it was
+abbrev pub Read : Result (List ℕ) Fault → (before after : List ℕ) → Result Span Fault → Type 0
+Read read before after r =
     Cases r (λ s. (xs : List ℕ) × (read ≡ Ok xs) × Stored xs before after s) (λ f. (after ≡ before) × Faulty read f)
 
-abbrev pub GlyphsPushed : Result (List ℕ) Fault → (before after : List ℕ) → Result (Unit {0}) Fault → Type 0
-GlyphsPushed read before after r =
+-- the same where a fault leaves the numbers before it
+abbrev pub Pushed : Result (List ℕ) Fault → (before after : List ℕ) → Result (Unit {0}) Fault → Type 0
+Pushed read before after r =
     Cases r
     (λ _. (xs : List ℕ) × (read ≡ Ok xs) × (after ≡ before ++ xs))
     (λ f. ((xs : List ℕ) × (after ≡ before ++ xs)) × Faulty read f)
-
-abbrev pub TableRead : Result (List ℕ × ℕ) Fault → (before after : List ℕ) → Result (Span × ℕ) Fault → Type 0
-TableRead read before after r =
-    Cases r
-    (λ p. (xs : List ℕ) × (read ≡ Ok (xs, p .1)) × Stored xs before after (p .0))
-    (λ f. (after ≡ before) × Faulty read f)
 
 -- the buffers grow, and the lines stay
 pub record Grows (before after : Script) : Type 0 where

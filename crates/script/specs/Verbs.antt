@@ -7,7 +7,7 @@ use Rattle.std.specs.shelf.Text.{sameBytes}
 use Rattle.std.specs.declared.option.Option.{Option}
 use Rattle.std.specs.declared.option.Option.the-variants.{Some, None}
 use Rattle.script.specs.declared.command.Verb.{Verb}
-use Rattle.script.specs.declared.command.Verb.the-variants.{Coverage, Class, DigestOf, DigestSpan, Allowance, Left}
+use Rattle.script.specs.declared.command.Verb.the-variants.{Coverage, Class, DigestOf, DigestSpan, Allowance, Left, Open, OpenWide, Hit, Applies}
 
 abbrev pub nameOf : Verb → List ℕ
 nameOf Coverage = codes "coverage"
@@ -16,9 +16,13 @@ nameOf DigestOf = codes "digest-of"
 nameOf DigestSpan = codes "digest-span"
 nameOf Allowance = codes "allowance"
 nameOf Left = codes "left"
+nameOf Open = codes "open"
+nameOf OpenWide = codes "open-wide"
+nameOf Hit = codes "hit"
+nameOf Applies = codes "applies"
 
 abbrev pub verbs : List Verb
-verbs = Coverage ∷ Class ∷ DigestOf ∷ DigestSpan ∷ Allowance ∷ Left ∷ []
+verbs = Coverage ∷ Class ∷ DigestOf ∷ DigestSpan ∷ Allowance ∷ Left ∷ Open ∷ OpenWide ∷ Hit ∷ Applies ∷ []
 
 -- the first of these verbs that a word names
 abbrev pub firstNamed : List ℕ → List Verb → Option Verb

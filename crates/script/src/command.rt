@@ -1,7 +1,8 @@
 //! The commands of a script.
 ghost use mathlib.Core.Path.{_≡_};
-ghost use Rattle.std.specs.shelf.Text.{sameBytes};
 ghost use Rattle.script.specs.Verbs.{firstNamed, nameOf, verbIn};
+use opening::wide::WideParts;
+use words::line::same;
 use words::span::Span;
 
 /// The first word of a command.
@@ -13,34 +14,78 @@ pub enum Verb {
     DigestSpan,
     Allowance,
     Left,
+    Open,
+    OpenWide,
+    Hit,
+    Applies,
 }
 
 /// A command with its arguments. Bytes and glyphs stand in the script's buffers.
 #[derive(Clone, Copy)]
 pub enum Command {
     /// Asks the coverage table in these bytes for a glyph.
-    Coverage { table: Span, glyph: u32 },
+    Coverage {
+        table: Span,
+        glyph: u32,
+    },
     /// Asks the class table in these bytes for a glyph.
-    Class { table: Span, glyph: u32 },
+    Class {
+        table: Span,
+        glyph: u32,
+    },
     /// Adds these glyphs to an empty digest.
-    DigestOf { glyphs: Span },
+    DigestOf {
+        glyphs: Span,
+    },
     /// Adds the glyphs from `first` to `last` to an empty digest.
-    DigestSpan { first: u32, last: u32 },
+    DigestSpan {
+        first: u32,
+        last: u32,
+    },
     /// Starts over with a new allowance.
-    Allowance { work: u64, bytes: u64 },
+    Allowance {
+        work: u64,
+        bytes: u64,
+    },
     /// Reads the allowance.
     Left,
+    /// Opens the subtable in these bytes.
+    Open {
+        table: Span,
+        chained: bool,
+    },
+    /// Opens the subtable of a wide kind in these bytes.
+    OpenWide {
+        table: Span,
+        parts: WideParts,
+    },
+    /// Asks a listed subtable for the hit at a place of a run.
+    Hit {
+        subtable: u32,
+        place: usize,
+        glyphs: Span,
+    },
+    /// Asks a listed subtable whether it would apply to a list of glyphs.
+    Applies {
+        subtable: u32,
+        zero_context: bool,
+        glyphs: Span,
+    },
 }
 
 impl Verb {
     /// Every verb.
-    const ALL: [Verb; 6] = [
+    const ALL: [Verb; 10] = [
         Verb::Coverage,
         Verb::Class,
         Verb::DigestOf,
         Verb::DigestSpan,
         Verb::Allowance,
         Verb::Left,
+        Verb::Open,
+        Verb::OpenWide,
+        Verb::Hit,
+        Verb::Applies,
     ];
 
     /// The word that names the verb.
@@ -54,6 +99,10 @@ impl Verb {
             Verb::DigestSpan => "digest-span",
             Verb::Allowance => "allowance",
             Verb::Left => "left",
+            Verb::Open => "open",
+            Verb::OpenWide => "open-wide",
+            Verb::Hit => "hit",
+            Verb::Applies => "applies",
         }
     }
 
@@ -75,11 +124,4 @@ fn first_named(word: &[u8], verbs: &[Verb]) -> Option<Verb>
         }
     }
     None
-}
-
-/// Whether two words are the same.
-fn same(a: &[u8], b: &[u8]) -> bool
-    ensures { λ r. ⌜ r ≡ sameBytes (now (a .entry)) (now (b .entry)) ⌝ }
-{
-    a == b
 }

@@ -1,31 +1,34 @@
 //! A whole script: its lines as commands, over one buffer of bytes and one of glyphs.
 ghost use mathlib.Core.Path.{_≡_};
 ghost use mathlib.Core.List.{_++_};
-ghost use Prim.Native.Nat.{_^_};
 ghost use denote.Ref.{now};
 ghost use lib.Dec.{eqb};
 ghost use lib.ListN.{drop, getD};
-ghost use Rattle.std.specs.Of.Vec.{vec-items};
 ghost use Rattle.std.specs.Orderings.{Decides};
-ghost use Rattle.std.specs.Results.{Cases};
 ghost use Rattle.std.specs.Vec.{made};
-ghost use Rattle.std.specs.declared.result.Result.the-variants.{Ok, Err};
-ghost use Rattle.script.specs.Lines.{glyphsOf, lineSaid, noneOf, numbersOf, saidBy, scriptIn, tableOf, twoOf};
-ghost use Rattle.script.specs.Meant.{CommandRead, GlyphsPushed, GlyphsRead, Sound, TableRead, saidOf};
+ghost use Rattle.std.specs.declared.result.Result.the-variants.{Err};
+ghost use Rattle.script.specs.Lines.{lineSaid, saidBy, scriptIn};
+ghost use Rattle.script.specs.Meant.{CommandRead, Sound, saidOf};
 ghost use Rattle.script.specs.Verbs.{verbIn};
 ghost use Rattle.words.specs.declared.fault.Fault.the-variants.{NoMemory};
 ghost use Rattle.words.specs.Words.{wordsIn};
+use crate::appended::all_glyphs;
+use crate::appended::table;
 use crate::command::Command;
 use crate::command::Verb;
+use arguments::no_words;
+use arguments::subtable_and_flag;
+use arguments::subtable_and_place;
+use arguments::table_and_chained;
+use arguments::table_and_glyph;
+use arguments::table_and_parts;
+use arguments::two_amounts;
+use arguments::two_glyphs;
 use std::alloc::AllocError;
 use std::alloc::Global;
 use words::fault::Fault;
-use words::hex::hex;
 use words::line::Words;
 use words::line::index_of;
-use words::numbers::decimal;
-use words::numbers::decimal_u32;
-use words::span::Span;
 
 /// What ends a line.
 const LINE_END: u8 = b'\n';
@@ -81,7 +84,7 @@ impl Script {
     }
 
     /// The command of a first word and the words after it; its bytes and glyphs are appended.
-    fn command(&mut self, word: &[u8], words: Words<'_>) -> Result<Command, Fault>
+    fn command(&mut self, word: &[u8], mut words: Words<'_>) -> Result<Command, Fault>
         ensures { λ r. ⌜ CommandRead (saidBy (verbIn (now (word .entry))) (wordsIn (now (words .entry .rest)))) (now (self .entry)) (now (self .exit)) r ⌝ }
     {
         let Some(verb) = Verb::named(word) else {
@@ -89,11 +92,13 @@ impl Script {
         };
         match verb {
             Verb::Coverage => {
-                let (table, glyph) = table_and_glyph(words, &mut self.bytes)?;
+                let (word, glyph) = table_and_glyph(words)?;
+                let table = table(word, &mut self.bytes)?;
                 Ok(Command::Coverage { table, glyph })
             }
             Verb::Class => {
-                let (table, glyph) = table_and_glyph(words, &mut self.bytes)?;
+                let (word, glyph) = table_and_glyph(words)?;
+                let table = table(word, &mut self.bytes)?;
                 Ok(Command::Class { table, glyph })
             }
             Verb::DigestOf => {
@@ -111,6 +116,34 @@ impl Script {
             Verb::Left => {
                 no_words(words)?;
                 Ok(Command::Left)
+            }
+            Verb::Open => {
+                let (word, chained) = table_and_chained(words)?;
+                let table = table(word, &mut self.bytes)?;
+                Ok(Command::Open { table, chained })
+            }
+            Verb::OpenWide => {
+                let (word, parts) = table_and_parts(words)?;
+                let table = table(word, &mut self.bytes)?;
+                Ok(Command::OpenWide { table, parts })
+            }
+            Verb::Hit => {
+                let (subtable, place) = subtable_and_place(&mut words)?;
+                let glyphs = all_glyphs(words, &mut self.glyphs)?;
+                Ok(Command::Hit {
+                    subtable,
+                    place,
+                    glyphs,
+                })
+            }
+            Verb::Applies => {
+                let (subtable, zero_context) = subtable_and_flag(&mut words)?;
+                let glyphs = all_glyphs(words, &mut self.glyphs)?;
+                Ok(Command::Applies {
+                    subtable,
+                    zero_context,
+                    glyphs,
+                })
             }
         }
     }
@@ -141,85 +174,4 @@ fn lacks_memory(said: &Result<Command, Fault>) -> bool
         Err(Fault::NoMemory) => true,
         _ => false,
     }
-}
-
-/// Sees that there is no word left.
-fn no_words(mut words: Words<'_>) -> Result<(), Fault>
-    ensures { λ r. ⌜ r ≡ noneOf (wordsIn (now (words .entry .rest))) ⌝ }
-{
-    match words.next_word() {
-        None => Ok(()),
-        Some(_) => Err(Fault::ExtraWord),
-    }
-}
-
-/// The two words that are left.
-fn two_words<'a>(mut words: Words<'a>) -> Result<(&'a [u8], &'a [u8]), Fault>
-    ensures { λ r. ⌜ Cases r (λ p. twoOf (wordsIn (now (words .entry .rest))) ≡ Ok (now (p .0), now (p .1))) (λ f. twoOf (wordsIn (now (words .entry .rest))) ≡ Err f) ⌝ }
-{
-    let Some(first) = words.next_word() else {
-        return Err(Fault::MissingWord);
-    };
-    let Some(second) = words.next_word() else {
-        return Err(Fault::MissingWord);
-    };
-    no_words(words)?;
-    Ok((first, second))
-}
-
-/// The two glyphs that are left.
-fn two_glyphs(words: Words<'_>) -> Result<(u32, u32), Fault>
-    ensures { λ r. ⌜ r ≡ numbersOf (2 ^ 32) (wordsIn (now (words .entry .rest))) ⌝ }
-{
-    let (first, second) = two_words(words)?;
-    let first = decimal_u32(first)?;
-    let second = decimal_u32(second)?;
-    Ok((first, second))
-}
-
-/// The two amounts that are left.
-fn two_amounts(words: Words<'_>) -> Result<(u64, u64), Fault>
-    ensures { λ r. ⌜ r ≡ numbersOf (2 ^ 64) (wordsIn (now (words .entry .rest))) ⌝ }
-{
-    let (first, second) = two_words(words)?;
-    let first = decimal(first)?;
-    let second = decimal(second)?;
-    Ok((first, second))
-}
-
-/// A table's bytes, which are appended, and a glyph.
-fn table_and_glyph(words: Words<'_>, bytes: &mut Vec<u8>) -> Result<(Span, u32), Fault>
-    ensures { λ r. ⌜ TableRead (tableOf (wordsIn (now (words .entry .rest)))) (vec-items (now (bytes .entry))) (vec-items (now (bytes .exit))) r ⌝ }
-{
-    let (table, glyph) = two_words(words)?;
-    let glyph = decimal_u32(glyph)?;
-    Ok((hex(table, bytes)?, glyph))
-}
-
-/// All words that are left as glyphs, which are appended.
-fn all_glyphs(words: Words<'_>, glyphs: &mut Vec<u32>) -> Result<Span, Fault>
-    ensures { λ r. ⌜ GlyphsRead (glyphsOf (wordsIn (now (words .entry .rest)))) (vec-items (now (glyphs .entry))) (vec-items (now (glyphs .exit))) r ⌝ }
-{
-    let start = glyphs.len();
-    if let Err(fault) = push_glyphs(words, glyphs) {
-        glyphs.truncate(start);
-        return Err(fault);
-    }
-    Ok(Span {
-        start,
-        end: glyphs.len(),
-    })
-}
-
-/// Appends all words that are left as glyphs, up to the first that is none.
-fn push_glyphs(mut words: Words<'_>, glyphs: &mut Vec<u32>) -> Result<(), Fault>
-    ensures { λ r. ⌜ GlyphsPushed (glyphsOf (wordsIn (now (words .entry .rest)))) (vec-items (now (glyphs .entry))) (vec-items (now (glyphs .exit))) r ⌝ }
-{
-    while let Some(word) = words.next_word() {
-        let glyph = decimal_u32(word)?;
-        let Ok(()) = glyphs.push(glyph) else {
-            return Err(Fault::NoMemory);
-        };
-    }
-    Ok(())
 }

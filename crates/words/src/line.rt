@@ -5,11 +5,19 @@ ghost use mathlib.Core.Bool.{true};
 ghost use denote.Ref.{now};
 ghost use lib.ListN.{length};
 ghost use Rattle.std.specs.Options.{isSome, mapped};
+ghost use Rattle.std.specs.shelf.Text.{sameBytes};
 ghost use Rattle.words.specs.Bytes.{indexOf, leading};
 ghost use Rattle.words.specs.Words.{afterWord, headed, wordIn, wordsIn};
 
 /// What separates words.
 const SPACE: u8 = b' ';
+
+/// Whether two words are the same.
+pub fn same(a: &[u8], b: &[u8]) -> bool
+    ensures { λ r. ⌜ r ≡ sameBytes (now (a .entry)) (now (b .entry)) ⌝ }
+{
+    a == b
+}
 
 /// The index of the first byte that equals `b`, or the length where there is none.
 pub fn index_of(text: &[u8], b: u8) -> usize

@@ -3,10 +3,9 @@ ghost use mathlib.Core.Path.{_≡_};
 ghost use Prim.Native.Nat.{_^_};
 ghost use Rattle.std.specs.Text.{asciiDigit};
 ghost use Rattle.words.specs.Bytes.{every};
-ghost use Rattle.words.specs.Numbers.{decimalIn, rangeIn};
+ghost use Rattle.words.specs.Numbers.{decimalIn, flagIn, rangeIn};
 use crate::fault::Fault;
 use crate::line::index_of;
-use crate::span::Span;
 
 /// Whether every byte is a decimal digit.
 fn all_digits(word: &[u8]) -> bool
@@ -52,21 +51,29 @@ pub fn decimal_u32(word: &[u8]) -> Result<u32, Fault>
     Ok(value as u32)
 }
 
+/// Whether a word writes 1; it is to write a number below 2.
+pub fn flag(word: &[u8]) -> Result<bool, Fault>
+    ensures { λ r. ⌜ r ≡ flagIn (now (word .entry)) ⌝ }
+{
+    let value = decimal(word)?;
+    if value > 1 {
+        return Err(Fault::NumberTooLarge);
+    }
+    Ok(value == 1)
+}
+
 /// What stands twice between the two numbers of a range.
 const DOT: u8 = b'.';
 
-/// The range that a word writes: two numbers with two dots between them.
-pub fn range(word: &[u8]) -> Result<Span, Fault>
+/// The two ends of the range that a word writes: two numbers below 2^32 with two dots between them.
+pub fn range(word: &[u8]) -> Result<(u32, u32), Fault>
     ensures { λ r. ⌜ r ≡ rangeIn (now (word .entry)) ⌝ }
 {
     let at = index_of(word, DOT);
     if word.len() < at + 2 || word[at + 1] != DOT {
         return Err(Fault::NotARange);
     }
-    let start = decimal(&word[0..at])?;
-    let end = decimal(&word[at + 2..])?;
-    Ok(Span {
-        start: start as usize,
-        end: end as usize,
-    })
+    let start = decimal_u32(&word[0..at])?;
+    let end = decimal_u32(&word[at + 2..])?;
+    Ok((start, end))
 }

@@ -17,3 +17,6 @@ returns-in-OpenWide g c =
     let is = ap (λ call. event aside call (length (c .args .hits .now)) (length (c .args .words .now))) (c .in-OpenWide .is) in
     let a = subst (Opens _ _ _ _ _ _ _) (sym is) (opens-wide _ _ _ _ _ _ _ (c .open-wide .result) (c .opened-answer-in-OpenWide .ensures .value) _ _ (c .open-wide .ensures .answer) (c .open-wide .ensures .left)) in
     record { same = refl; does = a .does; answer = a .answers; hits = a .lists; words = a .fills }
+
+pub returns-in-Fill : need.returns-in-Fill
+returns-in-Fill g c = ?

@@ -14,13 +14,13 @@ pub returns-in-Break-end : need.returns-in-Break-end
 returns-in-Break-end c =
     let p = err-from-errBy (c .from-residual-in-Break-end .result) (c .from-residual-in-Break-end .ensures .1) in
     let is = range-is (c .args .word .now) (c .index-of-at .result) (c .index-of-at .ensures .value) (omega arith) (c .if-word-at-ne-DOT .left) in
-    let a : Ok (c .in-Continue-start .start) ≡ decimalIn (2 ^ 64) (take (c .index-of-at .result) (c .args .word .now)) = search needs in
-    let b = c .in-Break-end .ensures tt ∙ ap (decimalIn (2 ^ 64)) (take-rest (c .args .word .now) (c .index-of-at .result + 2)) in
+    let a : Ok (c .in-Continue-start .start) ≡ decimalIn (2 ^ 32) (take (c .index-of-at .result) (c .args .word .now)) = search needs in
+    let b = c .in-Break-end .ensures tt ∙ ap (decimalIn (2 ^ 32)) (take-rest (c .args .word .now) (c .index-of-at .result + 2)) in
     rw (p .1, p .2, is, ← a, ← b) refl
 
 pub returns : need.returns
 returns c =
     let is = range-is (c .args .word .now) (c .index-of-at .result) (c .index-of-at .ensures .value) (omega arith) (c .if-word-at-ne-DOT .left) in
-    let a : Ok (c .in-Continue-start .start) ≡ decimalIn (2 ^ 64) (take (c .index-of-at .result) (c .args .word .now)) = search needs in
-    let b = c .in-Continue-end .ensures tt ∙ ap (decimalIn (2 ^ 64)) (take-rest (c .args .word .now) (c .index-of-at .result + 2)) in
+    let a : Ok (c .in-Continue-start .start) ≡ decimalIn (2 ^ 32) (take (c .index-of-at .result) (c .args .word .now)) = search needs in
+    let b = c .in-Continue-end .ensures tt ∙ ap (decimalIn (2 ^ 32)) (take-rest (c .args .word .now) (c .index-of-at .result + 2)) in
     rw (is, ← a, ← b) refl

@@ -1,37 +1,44 @@
-use mathlib.Core.Path.{refl, sym, ap, _∙_}
-use mathlib.Core.List.{[], append-nil}
+use mathlib.Core.Path.{sym, ap, _∙_}
 use denote.Ref.{now}
 use Rattle.std.proofs.shelf.Results.{err-from-errBy}
 use Rattle.std.specs.declared.option.Option.the-variants.{Some}
-use Rattle.script.specs.Lines.{andThen, saidBy, coverage, class}
-use Rattle.words.specs.Words.{wordsIn}
 use Rattle.std.specs.declared.result.Result.the-variants.{Ok}
+use Rattle.words.specs.Hex.{hexIn}
+use Rattle.words.specs.Words.{wordsIn}
+use Rattle.script.specs.Lines.{saidBy, onBytes, coverage, class, opens, opensWide}
+use Rattle.script.proofs.Refusing.{arguments-fault, bytes-fault}
 use Rattle.script.proofs.reader.Script.command.Needs as need
 
 pub returns-in-Break-table : need.returns-in-Break-table
 returns-in-Break-table c =
-    let p = err-from-errBy (c .from-residual .result) (c .from-residual .ensures .1) in
-    let h = c .in-Break-table .ensures tt in (
-      record { bytes = ([], h .0 ∙ sym (append-nil _)); glyphs = ([], sym (append-nil _)); lines = refl },
-      rw (p .1, p .2) (
-        h .0,
-        refl,
-        λ other.
-            ap (λ v. saidBy v (wordsIn (now (c .args .words .rest)))) (sym (c .in-Some .ensures tt) ∙ ap Some (c .in-Coverage .is))
-            ∙ ap (λ t. andThen t (λ q. Ok (coverage (q .0) (q .1)))) (h .1 other),
-      ),
-    )
+    let p = err-from-errBy (c .from-residual-in-Break-table .result) (c .from-residual-in-Break-table .ensures .1) in
+    let is = ap (λ v. saidBy v (wordsIn (now (c .args .words .rest)))) (sym (c .in-Some .ensures tt) ∙ ap Some (c .in-Coverage .is)) in
+    bytes-fault (c .args .self .now) _ _ _ (p .0) (p .1) (p .2) (c .table .last .bytes) (hexIn (now (c .in-Continue-word .word))) (λ bytes. Ok (coverage bytes (c .in-Continue-word .glyph)))
+    (is ∙ ap (λ a. onBytes a coverage) (c .in-Continue-word .ensures tt)) (c .in-Break-table .ensures tt)
 
 pub returns-in-Break-table-2 : need.returns-in-Break-table-2
 returns-in-Break-table-2 c =
     let p = err-from-errBy (c .from-residual-in-Break-table-2 .result) (c .from-residual-in-Break-table-2 .ensures .1) in
-    let h = c .in-Break-table-2 .ensures tt in (
-      record { bytes = ([], h .0 ∙ sym (append-nil _)); glyphs = ([], sym (append-nil _)); lines = refl },
-      rw (p .1, p .2) (
-        h .0,
-        refl,
-        λ other.
-            ap (λ v. saidBy v (wordsIn (now (c .args .words .rest)))) (sym (c .in-Some .ensures tt) ∙ ap Some (c .in-Class .is))
-            ∙ ap (λ t. andThen t (λ q. Ok (class (q .0) (q .1)))) (h .1 other),
-      ),
-    )
+    let is = ap (λ v. saidBy v (wordsIn (now (c .args .words .rest)))) (sym (c .in-Some .ensures tt) ∙ ap Some (c .in-Class .is)) in
+    bytes-fault (c .args .self .now) _ _ _ (p .0) (p .1) (p .2) (c .table-in-Class .last .bytes) (hexIn (now (c .in-Continue-word-2 .word))) (λ bytes. Ok (class bytes (c .in-Continue-word-2 .glyph)))
+    (is ∙ ap (λ a. onBytes a class) (c .in-Continue-word-2 .ensures tt)) (c .in-Break-table-2 .ensures tt)
+
+pub returns-in-Break-table-3 : need.returns-in-Break-table-3
+returns-in-Break-table-3 c =
+    let p = err-from-errBy (c .from-residual-in-Break-table-3 .result) (c .from-residual-in-Break-table-3 .ensures .1) in
+    let is = ap (λ v. saidBy v (wordsIn (now (c .args .words .rest)))) (sym (c .in-Some .ensures tt) ∙ ap Some (c .in-Open .is)) in
+    bytes-fault (c .args .self .now) _ _ _ (p .0) (p .1) (p .2) (c .table-in-Open .last .bytes) (hexIn (now (c .in-Continue-word-3 .word))) (λ bytes. Ok (opens bytes (c .in-Continue-word-3 .chained)))
+    (is ∙ ap (λ a. onBytes a opens) (c .in-Continue-word-3 .ensures tt)) (c .in-Break-table-3 .ensures tt)
+
+pub returns-in-Break-table-4 : need.returns-in-Break-table-4
+returns-in-Break-table-4 c =
+    let p = err-from-errBy (c .from-residual-in-Break-table-4 .result) (c .from-residual-in-Break-table-4 .ensures .1) in
+    let is = ap (λ v. saidBy v (wordsIn (now (c .args .words .rest)))) (sym (c .in-Some .ensures tt) ∙ ap Some (c .in-OpenWide .is)) in
+    bytes-fault (c .args .self .now) _ _ _ (p .0) (p .1) (p .2) (c .table-in-OpenWide .last .bytes) (hexIn (now (c .in-Continue-word-4 .word))) (λ bytes. Ok (opensWide bytes (c .in-Continue-word-4 .parts)))
+    (is ∙ ap (λ a. onBytes a opensWide) (c .in-Continue-word-4 .ensures tt)) (c .in-Break-table-4 .ensures tt)
+
+pub returns-in-Break-word-4 : need.returns-in-Break-word-4
+returns-in-Break-word-4 c =
+    let p = err-from-errBy (c .from-residual-in-Break-word-4 .result) (c .from-residual-in-Break-word-4 .ensures .1) in
+    let is = ap (λ v. saidBy v (wordsIn (now (c .args .words .rest)))) (sym (c .in-Some .ensures tt) ∙ ap Some (c .in-OpenWide .is)) in
+    arguments-fault (c .args .self .now) _ _ _ (p .0) (p .1) (p .2) (is ∙ ap (λ a. onBytes a opensWide) (c .in-Break-word-4 .ensures tt))

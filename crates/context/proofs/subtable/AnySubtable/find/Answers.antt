@@ -1,0 +1,4 @@
+use Rattle.context.proofs.subtable.AnySubtable.find.Needs as need
+
+pub returns-in-Coverages : need.returns-in-Coverages
+returns-in-Coverages c = rw (c .in-Coverages .is) (c .find-in-Coverages .ensures)
