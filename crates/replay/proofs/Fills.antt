@@ -10,13 +10,20 @@ use lib.Dec.{leb}
 use lib.ListN.{length, getD}
 use Rattle.std.proofs.shelf.Lists.{ext-getD}
 use Rattle.std.specs.declared.option.Option.{Option}
+use Rattle.std.specs.declared.result.Result.{Result}
+use Rattle.answers.specs.declared.hit.Hit.{Hit}
+use Rattle.answers.specs.declared.refusal.Refusal.{Refusal}
+use Rattle.book.specs.declared.slots.Slot.{Slot}
 use Rattle.opentype.specs.Bytes.{Array}
 use Rattle.opentype.specs.Draws.{Allowance, Draw, rest}
+use Rattle.opentype.specs.Meaning.{Subtable}
 use Rattle.opentype.specs.Rules.{RuleSet}
 use Rattle.opentype.specs.Words.{wordDraws}
-use Rattle.rule_words.specs.Fills.{entryOf, fillLeaves, fillStores}
-use Rattle.calls.specs.Answers.{entriesFrom}
-use Rattle.calls.specs.Events.{fillDraws}
+use Rattle.rule_words.specs.Fills.{entryOf, fillAnswer, fillLeaves, fillStores}
+use Rattle.calls.specs.Answers.{done, entriesFrom}
+use Rattle.calls.specs.Events.{fillDraws, wordFill}
+use Rattle.calls.specs.declared.sheet.Answer.{Answer}
+use Rattle.replay.proofs.Outcomes.{Leaves}
 
 rest-by : (b : Bool) (ds : List Draw) (left : Allowance) → cond b (rest ds left) left ≡ rest (cond b ds []) left
 rest-by true ds left = refl
@@ -39,3 +46,13 @@ pub buffer-is : (f : ℕ → ℕ) (then lent : List ℕ) → length then ≡ len
 buffer-is f then lent size each =
     ext-getD 0 then (entriesFrom f 0 lent) (size ∙ sym (entries-length f 0 lent))
     (λ k l. each k ∙ ap f (sym (zero-add k)) ∙ sym (entries-at f 0 lent k (omega (arith, size))))
+
+pub fills : (bank : List Subtable) (slots : List Slot) (left left′ : Allowance) (answer : Answer) (hits : List Hit) (words words′ : List ℕ) (firsts : Array (RuleSet (Option ℕ))) (r : Result (Unit {0}) Refusal)
+    → answer ≡ done r → r ≡ fillAnswer firsts (length words) left → left′ ≡ fillLeaves firsts (length words) left → length words′ ≡ length words
+    → ((k : ℕ) → getD words′ k 0 ≡ entryOf firsts (fillStores firsts (length words) left) words k) → Leaves bank slots left left′ answer hits words words′ (wordFill firsts (length words))
+fills bank slots left left′ answer hits words words′ firsts r tells is leaves size each = record {
+  does = record { to-slots = refl; to-left = leaves ∙ fill-leaves firsts (length words) left };
+  answers = tells ∙ ap (λ (x : Result (Unit {0}) Refusal). done x) is;
+  lists = refl;
+  fills = buffer-is _ words′ words size each;
+}

@@ -1,3 +1,3 @@
-pub mod Fills
-pub mod Openings
 pub mod Outcomes
+pub mod Openings
+pub mod Fills

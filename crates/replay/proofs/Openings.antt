@@ -19,9 +19,10 @@ use Rattle.opentype.specs.Headers.{WideParts, opened, openedWide}
 use Rattle.opentype.specs.Meaning.{Subtable}
 use Rattle.opentype.specs.Openings.{openingLeft}
 use Rattle.opentype.specs.Subtables.{Table}
-use Rattle.calls.specs.Answers.{Does, answerTo, done, hitsAfter, wordsAfter}
-use Rattle.calls.specs.Events.{Event, opening, openingWide, tableDraws}
+use Rattle.calls.specs.Answers.{done}
+use Rattle.calls.specs.Events.{opening, openingWide, tableDraws}
 use Rattle.calls.specs.declared.sheet.Answer.{Answer}
+use Rattle.replay.proofs.Outcomes.{Leaves}
 
 done-told : (r : Result View Refusal) → done r ≡ done (toldOf tableOf r)
 done-told (Ok v) = refl
@@ -32,16 +33,9 @@ left-draws None left = refl
 left-draws (Some t) left = refl
 
 module _ (bank : List Subtable) (slots : List Slot) (left left′ : Allowance) (answer : Answer) (hits : List Hit) (words : List ℕ) where
-  -- what a call ensures that changes neither the book nor the lists
-  pub record Opens (e : Event) : Type 0 where
-    pub does : Does bank e slots slots left left′
-    pub answers : answer ≡ answerTo bank e slots left
-    pub lists : hits ≡ hitsAfter bank e slots hits
-    pub fills : words ≡ wordsAfter e left words
-
   -- a view as it was told, and what is left
   module _ (r : Result View Refusal) (tells : answer ≡ done r) where
-    pub opens : (chained : Bool) (bytes : List ℕ) → toldOf tableOf r ≡ openedBy (opened chained bytes) left → left′ ≡ openingLeft (opened chained bytes) left → Opens (opening chained bytes)
+    pub opens : (chained : Bool) (bytes : List ℕ) → toldOf tableOf r ≡ openedBy (opened chained bytes) left → left′ ≡ openingLeft (opened chained bytes) left → Leaves bank slots left left′ answer hits words words (opening chained bytes)
     opens chained bytes is leaves = record {
       does = record { to-slots = refl; to-left = leaves ∙ left-draws (opened chained bytes) left };
       answers = tells ∙ done-told r ∙ ap (λ (x : Result Table Refusal). done x) is;
@@ -49,7 +43,7 @@ module _ (bank : List Subtable) (slots : List Slot) (left left′ : Allowance) (
       fills = refl;
     }
 
-    pub opens-wide : (parts : WideParts) (bytes : List ℕ) → toldOf tableOf r ≡ openedBy (openedWide parts bytes) left → left′ ≡ openingLeft (openedWide parts bytes) left → Opens (openingWide parts bytes)
+    pub opens-wide : (parts : WideParts) (bytes : List ℕ) → toldOf tableOf r ≡ openedBy (openedWide parts bytes) left → left′ ≡ openingLeft (openedWide parts bytes) left → Leaves bank slots left left′ answer hits words words (openingWide parts bytes)
     opens-wide parts bytes is leaves = record {
       does = record { to-slots = refl; to-left = leaves ∙ left-draws (openedWide parts bytes) left };
       answers = tells ∙ done-told r ∙ ap (λ (x : Result Table Refusal). done x) is;

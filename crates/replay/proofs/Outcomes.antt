@@ -41,3 +41,10 @@ module _ (aside bank : List Subtable) (call : Call) (slots slots′ : List Slot)
       let q = h ∙ a .lists in
       let r = w ∙ a .fills in
       outcomes _ _ _ _ _ _ _ _ p q r l
+
+-- what a call ensures that leaves the book and the hits as they are
+pub record Leaves (bank : List Subtable) (slots : List Slot) (left left′ : Allowance) (answer : Answer) (hits : List Hit) (words words′ : List ℕ) (e : Event) : Type 0 where
+  pub does : Does bank e slots slots left left′
+  pub answers : answer ≡ answerTo bank e slots left
+  pub lists : hits ≡ hitsAfter bank e slots hits
+  pub fills : words′ ≡ wordsAfter e left words
