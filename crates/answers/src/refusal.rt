@@ -11,6 +11,8 @@ pub enum Refusal {
     TooLong = 2,
     /// A place is not in its run.
     NotInRun = 3,
+    /// A number of a subtable is not below its bank's count.
+    NoSuchSubtable = 4,
     /// A draw is above what is left of the allowance.
     Exhausted = 5,
     /// A subtable cannot be filtered: a class array of its input or lookahead runs past glyph 65,535.
@@ -19,6 +21,8 @@ pub enum Refusal {
     Unopenable = 7,
     /// A sum by which a span's mask is computed passes 64 bits.
     SpanSum = 8,
+    /// A list does not take every hit of a run.
+    ListFull = 9,
     /// A buffer for the words of rule sets is shorter than the sets.
     ShortBuffer = 10,
     /// Two banks together have more than 32 subtables.

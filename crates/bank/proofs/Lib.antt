@@ -1,2 +1,2 @@
 mod Renumbering
-mod Searching
+pub mod Searching

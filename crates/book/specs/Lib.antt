@@ -1,0 +1,5 @@
+pub mod Slots
+pub mod Scans
+pub mod Calls
+pub mod Laws
+pub mod Examples

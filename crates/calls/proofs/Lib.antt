@@ -1,0 +1,4 @@
+pub mod Tallying
+pub mod Running
+pub mod Keeping
+pub mod Steps
