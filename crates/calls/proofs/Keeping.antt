@@ -27,7 +27,7 @@ use Rattle.book.specs.Scans.{appliesIn, hitsIn, triesIn, written}
 use Rattle.book.specs.declared.book.Counts.{Counts}
 use Rattle.opentype.specs.Meaning.{Bank, Subtable}
 use Rattle.calls.specs.Answers.{answerTo, hitsAfter, told}
-use Rattle.calls.specs.Events.{Event, State, after, beside, effect, newBook, tally}
+use Rattle.calls.specs.Events.{Event, State, after, beside, effect, leaves, newBook, tally}
 use Rattle.calls.specs.Promise.{AddsUp, Agree, Promise, Sheet, ToldApplies, ToldHits, blank, call, heldAt, leftAt, outcome, stateAt}
 use Rattle.calls.specs.Replied.{Replied}
 use Rattle.calls.specs.Sheets.{Outcome}
@@ -122,7 +122,7 @@ sheets-agree x y lent lent′ law law′ r r′ same = record {
 
 -- ---- one sheet after another
 
-left-all : (x : Sheet) (lent : List Outcome) → Replied x lent → x .rest ≡ after (x .bank) (newBook (x .began)) (x .calls) .left
+pub left-all : (x : Sheet) (lent : List Outcome) → Replied x lent → x .rest ≡ leaves (x .bank) (x .began) (x .calls)
 left-all x lent r = r .rest-is ∙ ap (λ es. after (x .bank) (newBook (x .began)) es .left) (take-all (length (x .calls)) (x .calls) (omega arith))
 
 pub sheets-in-turn : Sheets-in-turn

@@ -103,7 +103,7 @@ module _ (aside bank : List Subtable) (began : Budget) (old : List Line) where
       }
 
   pub played-all : (i : ℕ) (slots : List Slot) (budget : Budget) (lines : List Line) → i ≡ length old → Played i slots budget lines
-      → Replied (sheet aside bank began budget old lines) (map outcomeOf old) × (slots ≡ slotsLeft (sheet aside bank began budget old lines))
+      → Replied (sheet aside bank (allowanceOf began) (allowanceOf budget) old lines) (map outcomeOf old) × (slots ≡ slotsLeft (sheet aside bank (allowanceOf began) (allowanceOf budget) old lines))
   played-all i slots budget lines end r =
       let size = length-map old (eventOf aside) in
       let count : i ≡ length es = end ∙ sym size in

@@ -120,3 +120,7 @@ effect bank e s = record { slots = slotsAfter bank e (s .slots) (s .left); left 
 abbrev pub after : (bank : List Subtable) → State → List Event → State
 after bank s [] = s
 after bank s (e ∷ es) = after bank (effect bank e s) es
+
+-- what a list of calls on a new book leaves of an allowance
+abbrev pub leaves : (bank : List Subtable) → (given : Allowance) → List Event → Allowance
+leaves bank given es = after bank (newBook given) es .left

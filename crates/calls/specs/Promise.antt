@@ -11,7 +11,7 @@ use Rattle.bank.specs.Searches.{SomeApplies}
 use Rattle.book.specs.Laws.{Listed, heldIn, triesBy}
 use Rattle.opentype.specs.Draws.{Allowance}
 use Rattle.opentype.specs.Meaning.{Subtable}
-use Rattle.calls.specs.Events.{Event, State, after, anew, newBook, scan, tally, wouldApply}
+use Rattle.calls.specs.Events.{Event, State, after, anew, leaves, newBook, scan, tally, wouldApply}
 use Rattle.calls.specs.Sheets.{Outcome}
 use Rattle.calls.specs.Tallies.{_plus_, nothing}
 use Rattle.calls.specs.declared.sheet.Answer.the-variants.{Applies, Blank, Scanned}
@@ -65,7 +65,7 @@ pub record ToldApplies (x : Sheet) (i : ℕ) (glyphs : List ℕ) (bare yes : Boo
 -- Whatever earlier calls led from an allowance given to the one that these calls began with: the allowance given is what
 -- is left and all draws granted so far, by the tally of the earlier calls and these.
 abbrev pub AddsUp : (bank : List Subtable) → (began : Allowance) → (calls : List Event) → (left : Allowance) → Type 0
-AddsUp bank began calls left = (given : Allowance) (earlier : List Event) → after bank (newBook given) earlier .left ≡ began
+AddsUp bank began calls left = (given : Allowance) (earlier : List Event) → leaves bank given earlier ≡ began
     → given ≡ left plus tally bank given (earlier ++ calls) .drawn
 
 -- the promise of one book

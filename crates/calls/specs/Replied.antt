@@ -5,9 +5,7 @@ use mathlib.Core.Path.{_≡_}
 use mathlib.Core.List.{List, map}
 use lib.ListN.{length, getD}
 use Rattle.book.specs.declared.slots.Slot.{Slot}
-use Rattle.digest.specs.Allowances.{allowanceOf}
-use Rattle.digest.specs.declared.budget.Budget.{Budget}
-use Rattle.opentype.specs.Draws.{rest}
+use Rattle.opentype.specs.Draws.{Allowance, rest}
 use Rattle.opentype.specs.Meaning.{Subtable}
 use Rattle.calls.specs.Answers.{answerTo, hitsAfter, wordsAfter}
 use Rattle.calls.specs.Events.{Event, State, drawsOf, scan}
@@ -36,11 +34,11 @@ pub record Replied (x : Sheet) (lent : List Outcome) : Type 0 where
   pub rest-is : x .rest ≡ stateAt x (length (x .calls)) .left
 
 -- the sheet of these lines, as they were and as they are then, on an allowance before and after
-abbrev pub sheet : (aside bank : List Subtable) → (before after : Budget) → (lines then : List Line) → Sheet
+abbrev pub sheet : (aside bank : List Subtable) → (before after : Allowance) → (lines then : List Line) → Sheet
 sheet aside bank before after lines then = record {
   bank = bank;
-  began = allowanceOf before;
+  began = before;
   calls = map (eventOf aside) lines;
   outcomes = map outcomeOf then;
-  rest = allowanceOf after;
+  rest = after;
 }

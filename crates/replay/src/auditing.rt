@@ -4,6 +4,7 @@ ghost use mathlib.Core.List.{map};
 ghost use Rattle.calls.specs.Promise.{Agree, Promise};
 ghost use Rattle.calls.specs.Replied.{Replied, sheet, slotsLeft};
 ghost use Rattle.calls.specs.Sheets.{callsOf, outcomeOf};
+ghost use Rattle.digest.specs.Allowances.{allowanceOf};
 use crate::working::replay;
 use bank::Filtering;
 use bank::Matching;
@@ -32,11 +33,11 @@ pub fn audit<A: Filtering, B: Filtering, O: Filtering, Q: Filtering>(
 ) -> Audited<A, B>
     ensures same { λ r. ⌜ r .one .bank ≡ one ⌝ ∗ ⌜ r .other .bank ≡ other ⌝ }
     ensures calls { λ _. ⌜ callsOf (now («one_lines» .exit)) ≡ callsOf (now («one_lines» .entry)) ⌝ ∗ ⌜ callsOf (now («other_lines» .exit)) ≡ callsOf (now («other_lines» .entry)) ⌝ }
-    ensures one { λ r. let x = sheet (O·Matching .meaning (now («one_beside» .entry))) (A·Matching .meaning one) (now («one_budget» .entry)) (now («one_budget» .exit)) (now («one_lines» .entry)) (now («one_lines» .exit)) in ⌜ r .one .slots .table ≡ slotsLeft x ⌝ ∗ ⌜ Replied x (map outcomeOf (now («one_lines» .entry))) ⌝ ∗ ⌜ Promise x ⌝ }
-    ensures other { λ r. let y = sheet (Q·Matching .meaning (now («other_beside» .entry))) (B·Matching .meaning other) (now («other_budget» .entry)) (now («other_budget» .exit)) (now («other_lines» .entry)) (now («other_lines» .exit)) in ⌜ r .other .slots .table ≡ slotsLeft y ⌝ ∗ ⌜ Replied y (map outcomeOf (now («other_lines» .entry))) ⌝ ∗ ⌜ Promise y ⌝ }
+    ensures one { λ r. let x = sheet (O·Matching .meaning (now («one_beside» .entry))) (A·Matching .meaning one) (allowanceOf (now («one_budget» .entry))) (allowanceOf (now («one_budget» .exit))) (now («one_lines» .entry)) (now («one_lines» .exit)) in ⌜ r .one .slots .table ≡ slotsLeft x ⌝ ∗ ⌜ Replied x (map outcomeOf (now («one_lines» .entry))) ⌝ ∗ ⌜ Promise x ⌝ }
+    ensures other { λ r. let y = sheet (Q·Matching .meaning (now («other_beside» .entry))) (B·Matching .meaning other) (allowanceOf (now («other_budget» .entry))) (allowanceOf (now («other_budget» .exit))) (now («other_lines» .entry)) (now («other_lines» .exit)) in ⌜ r .other .slots .table ≡ slotsLeft y ⌝ ∗ ⌜ Replied y (map outcomeOf (now («other_lines» .entry))) ⌝ ∗ ⌜ Promise y ⌝ }
     ensures agree { λ _.
-        let x = sheet (O·Matching .meaning (now («one_beside» .entry))) (A·Matching .meaning one) (now («one_budget» .entry)) (now («one_budget» .exit)) (now («one_lines» .entry)) (now («one_lines» .exit)) in
-        let y = sheet (Q·Matching .meaning (now («other_beside» .entry))) (B·Matching .meaning other) (now («other_budget» .entry)) (now («other_budget» .exit)) (now («other_lines» .entry)) (now («other_lines» .exit)) in
+        let x = sheet (O·Matching .meaning (now («one_beside» .entry))) (A·Matching .meaning one) (allowanceOf (now («one_budget» .entry))) (allowanceOf (now («one_budget» .exit))) (now («one_lines» .entry)) (now («one_lines» .exit)) in
+        let y = sheet (Q·Matching .meaning (now («other_beside» .entry))) (B·Matching .meaning other) (allowanceOf (now («other_budget» .entry))) (allowanceOf (now («other_budget» .exit))) (now («other_lines» .entry)) (now («other_lines» .exit)) in
         ⌜ (A·Matching .meaning one ≡ B·Matching .meaning other → Agree x y × Agree y x) ⌝ }
 {
     let one = replay(one, one_beside, one_budget, one_lines);

@@ -188,9 +188,9 @@ pub fn replay<B: Filtering, O: Filtering>(
 ) -> Book<B>
     ensures same { λ r. ⌜ r .bank ≡ bank ⌝ }
     ensures calls { λ _. ⌜ callsOf (now (lines .exit)) ≡ callsOf (now (lines .entry)) ⌝ }
-    ensures slots { λ r. ⌜ r .slots .table ≡ slotsLeft (sheet (O·Matching .meaning (now (beside .entry))) (B·Matching .meaning bank) (now (budget .entry)) (now (budget .exit)) (now (lines .entry)) (now (lines .exit))) ⌝ }
-    ensures replied { λ _. ⌜ Replied (sheet (O·Matching .meaning (now (beside .entry))) (B·Matching .meaning bank) (now (budget .entry)) (now (budget .exit)) (now (lines .entry)) (now (lines .exit))) (map outcomeOf (now (lines .entry))) ⌝ }
-    ensures promise { λ _. ⌜ Promise (sheet (O·Matching .meaning (now (beside .entry))) (B·Matching .meaning bank) (now (budget .entry)) (now (budget .exit)) (now (lines .entry)) (now (lines .exit))) ⌝ }
+    ensures slots { λ r. ⌜ r .slots .table ≡ slotsLeft (sheet (O·Matching .meaning (now (beside .entry))) (B·Matching .meaning bank) (allowanceOf (now (budget .entry))) (allowanceOf (now (budget .exit))) (now (lines .entry)) (now (lines .exit))) ⌝ }
+    ensures replied { λ _. ⌜ Replied (sheet (O·Matching .meaning (now (beside .entry))) (B·Matching .meaning bank) (allowanceOf (now (budget .entry))) (allowanceOf (now (budget .exit))) (now (lines .entry)) (now (lines .exit))) (map outcomeOf (now (lines .entry))) ⌝ }
+    ensures promise { λ _. ⌜ Promise (sheet (O·Matching .meaning (now (beside .entry))) (B·Matching .meaning bank) (allowanceOf (now (budget .entry))) (allowanceOf (now (budget .exit))) (now (lines .entry)) (now (lines .exit))) ⌝ }
 {
     let mut book = Book::new(bank);
     for i in 0..lines.len() {
