@@ -1,7 +1,7 @@
 -- Kept slots hide nothing: a subtable that matches, or would apply, is never skipped.
 -- Assumes nothing.
 use Prim.Native.Nat.{ℕ, _+_, _≤_, _<_}
-use mathlib.Core.Path.{_≡_, refl, sym, ap, ap₂, subst, _∙_}
+use mathlib.Core.Path.{_≡_, refl, sym, ap, ap₂, _∙_}
 use mathlib.Core.Bool.{Bool, true, false, cond, not, _&&_, _||_}
 use mathlib.Core.List.{List}
 use lib.Dec.{ltb}
@@ -16,10 +16,10 @@ use Rattle.bank.specs.Answers.{hitOf, told}
 use Rattle.bank.specs.Searches.{firstHit}
 use Rattle.opentype.proofs.Laws.{digest-laws}
 use Rattle.opentype.specs.Masks.{admits, full}
-use Rattle.opentype.specs.Matching.{Found, anyBelow, firstBelow}
-use Rattle.opentype.specs.Meaning.{Admits, Bank, Filter, Subtable, subtable}
-use Rattle.book.specs.Laws.{Fewer-tries, Filters-hide-nothing, Whole, heldIn, skipped, triesBy}
-use Rattle.book.specs.Scans.{appliesIn, countUntil, hitAt, hitsIn, mayTry, seen, sumBelow, triesAt, triesIn}
+use Rattle.opentype.specs.Matching.{Found, firstBelow}
+use Rattle.opentype.specs.Meaning.{Bank, Filter, Subtable, subtable}
+use Rattle.book.specs.Laws.{Fewer-tries, Filters-hide-nothing, Whole, heldIn, skipped}
+use Rattle.book.specs.Scans.{hitAt, mayTry, seen}
 use Rattle.book.specs.Slots.{Kept, MasksBy, isHeld, slotAt}
 use Rattle.book.specs.declared.slots.Slot.{Slot}
 use Rattle.book.specs.declared.slots.SlotState.{SlotState}

@@ -7,17 +7,15 @@ use mathlib.Core.List.{List, [], _∷_}
 use mathlib.Core.Logic.{_⊎_, inl, inr}
 use lib.Dec.{ltb}
 use lib.ListN.{length, getD, set, replicate, getD-replicate, List·getD-eq-default}
-use native.Mathlib.Omega.{arith}
 use Rattle.std.proofs.shelf.Tests.{cond-both, lt-ltb, true≢false}
 use Rattle.std.specs.Results.{isOk, valueOr}
 use Rattle.std.specs.declared.result.Result.{Result}
 use Rattle.std.specs.declared.result.Result.the-variants.{Ok, Err}
 use Rattle.answers.specs.declared.refusal.Refusal.{Refusal}
-use Rattle.answers.specs.declared.refusal.Refusal.the-variants.{Exhausted as OutOfAllowance, NoSuchSubtable, NotFilterable}
-use Rattle.digest.specs.declared.set_digest.SetDigest.{SetDigest}
+use Rattle.answers.specs.declared.refusal.Refusal.the-variants.{Exhausted as OutOfAllowance}
 use Rattle.bank.specs.Answers.{digestLeaves, digested}
 use Rattle.opentype.specs.Draws.{Allowance, fit}
-use Rattle.opentype.specs.Meaning.{Filter, Subtable, pastLast, subtable}
+use Rattle.opentype.specs.Meaning.{Subtable, pastLast, subtable}
 use Rattle.book.specs.Calls.{filterAnswer, filterEvent, filterSlots, forgetSlots, ofSubtable}
 use Rattle.book.specs.Slots.{Kept, MasksBy, after, bare, blank, changed, slotAt}
 use Rattle.book.specs.declared.slots.Slot.{Slot}

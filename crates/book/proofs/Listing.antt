@@ -1,25 +1,25 @@
 -- The first hits of all places of a run are complete.
 -- Assumes nothing.
-use Prim.Native.Nat.{ℕ, zero, suc, _+_, _≤_, _<_}
+use Prim.Native.Nat.{ℕ, zero, suc, _+_, _<_}
 use mathlib.Core.Path.{_≡_, refl, sym, ap, subst, _∙_}
 use mathlib.Core.List.{List, [], _∷_, _++_}
-use mathlib.Core.Logic.{_⊎_, inl, inr, ⊎-elim}
+use mathlib.Core.Logic.{⊎-elim}
 use lib.ListN.{length, getD}
 use native.Mathlib.Omega.{arith}
 use Rattle.std.proofs.shelf.Lists.{append-nil, getD-append-left, getD-push, length-push}
 use Rattle.std.proofs.shelf.Tests.{cases-lt, true≢false}
-use Rattle.std.specs.Options.{isSome, mapped}
+use Rattle.std.specs.Options.{isSome}
 use Rattle.std.specs.Vec.{listOf}
 use Rattle.std.specs.declared.option.Option.{Option}
 use Rattle.std.specs.declared.option.Option.the-variants.{Some, None}
 use Rattle.answers.specs.declared.hit.Hit.{Hit}
 use Rattle.bank.proofs.Searching.{told-none, told-some}
-use Rattle.bank.specs.Answers.{hitOf, told}
+use Rattle.bank.specs.Answers.{hitOf}
 use Rattle.bank.specs.Searches.{IsFirst, firstHit}
 use Rattle.opentype.proofs.Matched.{first-is, none-before}
 use Rattle.opentype.specs.Matching.{Found}
 use Rattle.opentype.specs.Meaning.{Subtable, subtable}
-use Rattle.book.specs.Laws.{Hits-are-listed, Listed, hitsOf, noHit}
+use Rattle.book.specs.Laws.{Hits-are-listed, noHit}
 use Rattle.book.specs.Scans.{listBelow}
 
 -- ---- the first hit at a place

@@ -1,23 +1,21 @@
 -- A scan, one place more at a time.
 -- Assumes nothing.
 use Prim.Native.Nat.{ℕ, _+_, _-_, _*_, _≤_, _<_}
-use mathlib.Core.Path.{_≡_, refl, sym, ap, subst, _∙_}
+use mathlib.Core.Path.{_≡_, refl, sym, ap, _∙_}
 use mathlib.Core.Bool.{Bool, true, false, cond}
 use mathlib.Core.List.{List, [], _∷_, _++_}
 use lib.Dec.{leb}
 use lib.ListN.{length, take, drop, set, getD}
 use native.Mathlib.Omega.{arith}
 use Rattle.std.proofs.shelf.Lists.{append-nil, append-assoc, length-append, length-push, drop-more, drop-all, set-at, take-all, take-at}
-use Rattle.std.proofs.shelf.Tests.{cond-true, cond-false, le-leb, leb-true, lt-leb, true≢false}
+use Rattle.std.proofs.shelf.Tests.{cond-true, le-leb, leb-true, lt-leb, true≢false}
 use Rattle.std.specs.Results.{isOk}
 use Rattle.std.specs.Vec.{listOf}
 use Rattle.std.specs.declared.option.Option.{Option}
 use Rattle.std.specs.declared.option.Option.the-variants.{Some, None}
-use Rattle.std.specs.declared.result.Result.{Result}
 use Rattle.std.specs.declared.result.Result.the-variants.{Ok, Err}
 use Rattle.answers.specs.Questions.{answered, runRefused}
 use Rattle.answers.specs.declared.hit.Hit.{Hit}
-use Rattle.answers.specs.declared.refusal.Refusal.{Refusal}
 use Rattle.answers.specs.declared.refusal.Refusal.the-variants.{ListFull, TooLong}
 use Rattle.opentype.specs.Meaning.{Subtable}
 use Rattle.book.specs.Scans.{hitAt, hitsIn, listBelow, scanAnswer, scanList, sumBelow, triesAt, triesIn, written}

@@ -1,6 +1,5 @@
 -- A worked example, by computation: one subtable, whose rule has the glyph 70 after the glyph 20.
 -- Assumes nothing.
-use Prim.Native.Nat.{ℕ}
 use mathlib.Core.Path.{_≡_}
 use mathlib.Core.List.{List, [], _∷_}
 use lib.ListN.{replicate}

@@ -40,9 +40,9 @@ pub struct Counts {
 
 /// What is found at one place: the hit, if there is one, and how many subtables were tried.
 #[derive(Clone, Copy)]
-pub struct Look {
-    pub hit: Option<Hit>,
-    pub tries: usize,
+struct Look {
+    hit: Option<Hit>,
+    tries: usize,
 }
 
 impl<B: Filtering> Book<B> {

@@ -1,16 +1,15 @@
 -- The promise, from what each call is defined to answer.
 -- Assumes nothing.
-use Prim.Native.Nat.{ℕ, zero, suc, _+_, _≤_, _<_}
+use Prim.Native.Nat.{ℕ, zero, suc, _+_, _≤_}
 use mathlib.Core.Path.{_≡_, refl, sym, ap, subst, _∙_}
 use mathlib.Core.Bool.{Bool, true, false, cond}
-use mathlib.Core.List.{List, [], _∷_, _++_, map}
+use mathlib.Core.List.{List, _++_}
 use native.Mathlib.Numerals.{add-one}
 use native.Mathlib.Omega.{arith}
 use lib.Dec.{leb}
 use lib.ListN.{length, getD, take, drop}
 use Rattle.std.proofs.shelf.Lists.{take-all, take-at}
 use Rattle.std.proofs.shelf.Tests.{leb-true}
-use Rattle.std.specs.Orderings.{Decides}
 use Rattle.std.specs.declared.option.Option.{Option}
 use Rattle.std.specs.declared.option.Option.the-variants.{Some, None}
 use Rattle.std.specs.declared.result.Result.the-variants.{Ok, Err}
@@ -19,22 +18,21 @@ use Rattle.answers.specs.declared.hit.Hit.{Hit}
 use Rattle.answers.specs.declared.refusal.Refusal.{Refusal}
 use Rattle.answers.specs.declared.refusal.Refusal.the-variants.{ListFull, TooLong}
 use Rattle.bank.proofs.Searching.{decides-some}
-use Rattle.bank.specs.Searches.{SomeApplies, someApplies}
+use Rattle.bank.specs.Searches.{someApplies}
 use Rattle.book.proofs.Hiding.{fewer-tries, filters-hide-nothing}
 use Rattle.book.proofs.Listing.{hits-are-listed}
-use Rattle.book.specs.Laws.{Listed, Whole, heldIn, hitsOf, triesBy}
+use Rattle.book.specs.Laws.{Listed, Whole, hitsOf, triesBy}
 use Rattle.book.specs.Scans.{appliesIn, hitsIn, triesIn, written}
 use Rattle.book.specs.declared.book.Counts.{Counts}
-use Rattle.opentype.specs.Meaning.{Bank, Subtable}
+use Rattle.opentype.specs.Meaning.{Bank}
 use Rattle.calls.specs.Answers.{answerTo, hitsAfter, told}
-use Rattle.calls.specs.Events.{Event, State, after, beside, effect, leaves, newBook, tally}
-use Rattle.calls.specs.Promise.{AddsUp, Agree, Promise, Sheet, ToldApplies, ToldHits, blank, call, heldAt, leftAt, outcome, stateAt}
+use Rattle.calls.specs.Events.{State, after, effect, leaves, newBook, tally}
+use Rattle.calls.specs.Promise.{Promise, Sheet, ToldApplies, ToldHits, blank, call, heldAt, leftAt, outcome, stateAt}
 use Rattle.calls.specs.Replied.{Replied}
 use Rattle.calls.specs.Sheets.{Outcome}
 use Rattle.calls.specs.Tallies.{_plus_}
 use Rattle.calls.specs.Theorems.{Sheets-agree, Sheets-in-turn, Sheets-keep}
-use Rattle.calls.specs.declared.sheet.Answer.{Answer}
-use Rattle.calls.specs.declared.sheet.Answer.the-variants.{Applies, Refused, Scanned}
+use Rattle.calls.specs.declared.sheet.Answer.the-variants.{Applies, Scanned}
 use Rattle.calls.proofs.Running.{kept-always, state-more}
 use Rattle.calls.proofs.Tallying.{adds, adds-in-turn}
 

@@ -1,6 +1,6 @@
 -- The tally keeps step with the allowance, and its rest and sums come to what was given.
 -- Assumes nothing.
-use Prim.Native.Nat.{ℕ, _+_, _-_, _≤_}
+use Prim.Native.Nat.{ℕ, _+_, _≤_}
 use mathlib.Core.Path.{_≡_, refl, sym, ap, _∙_}
 use mathlib.Core.Bool.{Bool, true, false, cond}
 use mathlib.Core.List.{List, [], _∷_, _++_, map}
@@ -8,11 +8,11 @@ use native.Mathlib.Nat.{add-zero}
 use native.Mathlib.Omega.{arith}
 use Rattle.std.proofs.shelf.Lists.{append-assoc}
 use Rattle.std.proofs.shelf.Tests.{cond-both, leb-true}
-use Rattle.opentype.specs.Draws.{Allowance, Counter, Draw, byteCounter, fits, leftOf, rest, taken, workCounter}
+use Rattle.opentype.specs.Draws.{Allowance, Counter, Draw, byteCounter, fits, leftOf, rest, workCounter}
 use Rattle.opentype.specs.Meaning.{Subtable}
 use Rattle.calls.specs.Events.{Event, State, after, anew, beside, draw, drawsOf, effect, filter, filterBeside, forget, newBook, opening, openingWide, scan, state, tally, tallyOn, wordFill, wouldApply}
 use Rattle.calls.specs.Promise.{AddsUp}
-use Rattle.calls.specs.Tallies.{Tally, _plus_, amounts, granted, nothing, starts, tallied}
+use Rattle.calls.specs.Tallies.{Tally, _plus_, granted, nothing, starts, tallied}
 
 pub allowances : (w w′ b b′ : ℕ) → w ≡ w′ → b ≡ b′ → _≡_ {A = Allowance} (record { work = w; bytes = b }) (record { work = w′; bytes = b′ })
 allowances w w′ b b′ p q = cc

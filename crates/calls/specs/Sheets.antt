@@ -1,7 +1,7 @@
 -- A sheet of calls as the program holds it, read as the calls that the tally sees and as what came of them.
 -- Assumes nothing.
 use Prim.Native.Nat.{ℕ}
-use mathlib.Core.List.{List, [], map}
+use mathlib.Core.List.{List, map}
 use denote.Ref.{now}
 use lib.ListN.{length}
 use Rattle.std.specs.Of.Vec.{vec-items}

@@ -1,6 +1,6 @@
 -- The tally of draws: a rest of its own, and the sums of the draws granted.
 -- Assumes nothing.
-use Prim.Native.Nat.{ℕ, _+_}
+use Prim.Native.Nat.{_+_}
 use mathlib.Core.Bool.{cond}
 use mathlib.Core.List.{List, [], _∷_}
 use Rattle.opentype.specs.Draws.{Allowance, Draw, byteCounter, fits, share, taken, workCounter}

@@ -1,7 +1,7 @@
 -- One line of a sheet: what a call leaves in the lists that it was lent is what the line then holds.
 -- Assumes nothing.
 use Prim.Native.Nat.{ℕ}
-use mathlib.Core.Path.{_≡_, refl, sym, ap, subst, _∙_}
+use mathlib.Core.Path.{_≡_, subst, _∙_}
 use mathlib.Core.List.{List}
 use lib.ListN.{length}
 use Rattle.answers.specs.declared.hit.Hit.{Hit}

@@ -1,4 +1,4 @@
-use mathlib.Core.Path.{_≡_, refl, sym, ap, subst, _∙_}
+use mathlib.Core.Path.{_≡_, refl, subst, _∙_}
 use mathlib.Core.List.{map}
 use Rattle.calls.proofs.Keeping.{left-all, sheets-in-turn, sheets-keep}
 use Rattle.calls.specs.Replied.{Replied, sheet, slotsLeft}

@@ -1,4 +1,4 @@
-use mathlib.Core.Path.{_≡_, refl, sym, ap, subst}
+use mathlib.Core.Path.{refl, sym, ap, subst}
 use lib.ListN.{length}
 use Rattle.calls.specs.Sheets.{event}
 use Rattle.context.specs.Classes.{classTableOf}

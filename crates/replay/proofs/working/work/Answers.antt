@@ -1,9 +1,9 @@
 use native.Mathlib.Omega.{arith}
-use mathlib.Core.Path.{_≡_, refl, ap, _∙_}
+use mathlib.Core.Path.{refl, ap}
 use lib.ListN.{length}
 use Rattle.std.proofs.shelf.Lists.{refilled-is}
 use Rattle.calls.specs.Sheets.{outcomeOf}
-use Rattle.replay.proofs.Outcomes.{Asks, asks-at, came}
+use Rattle.replay.proofs.Outcomes.{asks-at, came}
 use Rattle.replay.proofs.working.work.Needs as need
 
 pub returns : need.returns
