@@ -1,4 +1,4 @@
--- Arguments in two words, or in the first two of more.
+-- Arguments in one word, in two, or in the first two of more.
 use Prim.Native.Nat.{ℕ, _^_}
 use mathlib.Core.Bool.{Bool}
 use mathlib.Core.List.{List}
@@ -6,8 +6,12 @@ use Rattle.std.specs.declared.result.Result.{Result}
 use Rattle.std.specs.declared.result.Result.the-variants.{Ok}
 use Rattle.words.specs.Numbers.{decimalIn, flagIn}
 use Rattle.words.specs.declared.fault.Fault.{Fault}
-use Rattle.arguments.specs.Counts.{andThen, firstTwo, twoOf}
+use Rattle.arguments.specs.Counts.{andThen, firstTwo, nextWord, noneOf, twoOf}
 use Rattle.arguments.specs.Kinds.{chainedIn}
+
+-- one number below a limit
+abbrev pub numberOf : ℕ → List (List ℕ) → Result ℕ Fault
+numberOf limit ws = andThen (nextWord ws) (λ p. andThen (noneOf (p .1)) (λ _. decimalIn limit (p .0)))
 
 -- two numbers below a limit
 abbrev pub numbersOf : ℕ → List (List ℕ) → Result (ℕ × ℕ) Fault

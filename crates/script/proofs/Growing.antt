@@ -47,6 +47,9 @@ module _ (bs gs x y : List ℕ) where
   meant-grown (command.OpenWide table parts) h = ap (λ t. opensWide t parts) (cut-grown table bs x h)
   meant-grown (command.Hit subtable place at) h = ap (hit subtable place) (cut-grown at gs y h)
   meant-grown (command.Applies subtable zeroContext at) h = ap (applies subtable zeroContext) (cut-grown at gs y h)
+  meant-grown command.Aside h = refl
+  meant-grown (command.Masks subtable) h = refl
+  meant-grown (command.Words subtable count) h = refl
 
   stands-grown : (c : Command) → Stands bs gs c → Stands (bs ++ x) (gs ++ y) c
   stands-grown (command.Coverage table glyph) h = inside-grown table bs x h
@@ -59,6 +62,9 @@ module _ (bs gs x y : List ℕ) where
   stands-grown (command.OpenWide table parts) h = inside-grown table bs x h
   stands-grown (command.Hit subtable place at) h = inside-grown at gs y h
   stands-grown (command.Applies subtable zeroContext at) h = inside-grown at gs y h
+  stands-grown command.Aside h = tt
+  stands-grown (command.Masks subtable) h = tt
+  stands-grown (command.Words subtable count) h = tt
 
   lines-grown : (ls : List (Result Command Fault)) → All (LineStands bs gs) ls → map (said (bs ++ x) (gs ++ y)) ls ≡ map (said bs gs) ls
   lines-grown [] h = refl

@@ -10,7 +10,7 @@ use Rattle.std.specs.declared.result.Result.{Result}
 use Rattle.std.specs.declared.result.Result.the-variants.{Ok, Err}
 use Rattle.arguments.specs.Counts.{andThen, noneOf}
 use Rattle.arguments.specs.Parts.{openWideOf}
-use Rattle.arguments.specs.Simple.{appliesOf, hitOf, numbersOf, openOf, tableOf}
+use Rattle.arguments.specs.Simple.{appliesOf, hitOf, numberOf, numbersOf, openOf, tableOf}
 use Rattle.words.specs.Bytes.{pieces}
 use Rattle.words.specs.Hex.{hexIn}
 use Rattle.words.specs.Numbers.{decimalIn}
@@ -34,6 +34,9 @@ pub data Said : Type 0 where
   opensWide : (table : List ℕ) (parts : WideParts) → Said
   hit : (subtable place : ℕ) (glyphs : List ℕ) → Said
   applies : (subtable : ℕ) (zeroContext : Bool) (glyphs : List ℕ) → Said
+  aside : Said
+  masks : (subtable : ℕ) → Said
+  words : (subtable count : ℕ) → Said
 
 -- any number of glyphs
 abbrev pub glyphsOf : List (List ℕ) → Result (List ℕ) Fault
@@ -61,6 +64,9 @@ saidBy (Some verb.Open) ws = onBytes (openOf ws) opens
 saidBy (Some verb.OpenWide) ws = onBytes (openWideOf ws) opensWide
 saidBy (Some verb.Hit) ws = onGlyphs (hitOf ws) (λ p. hit (p .0) (p .1))
 saidBy (Some verb.Applies) ws = onGlyphs (appliesOf ws) (λ p. applies (p .0) (p .1))
+saidBy (Some verb.Aside) ws = andThen (noneOf ws) (λ _. Ok aside)
+saidBy (Some verb.Masks) ws = andThen (numberOf (2 ^ 32) ws) (λ k. Ok (masks k))
+saidBy (Some verb.Words) ws = andThen (numbersOf (2 ^ 32) ws) (λ p. Ok (words (p .0) (p .1)))
 
 -- a line's words: nothing where there are none
 abbrev pub wordsSaid : List (List ℕ) → List (Result Said Fault)

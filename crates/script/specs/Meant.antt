@@ -8,7 +8,7 @@ use Rattle.std.specs.Results.{Cases}
 use Rattle.std.specs.shelf.Lists.{All}
 use Rattle.std.specs.declared.result.Result.{Result}
 use Rattle.std.specs.declared.result.Result.the-variants.{Ok, Err}
-use Rattle.script.specs.Lines.{Said, coverage, class, digestOf, digestSpan, allowance, left, opens, opensWide, hit, applies}
+use Rattle.script.specs.Lines.{Said, coverage, class, digestOf, digestSpan, allowance, left, opens, opensWide, hit, applies, aside, masks, words}
 use Rattle.script.specs.declared.command.Command.{Command}
 use Rattle.script.specs.declared.command.Command.the-variants as command
 use Rattle.words.specs.declared.fault.Fault.{Fault}
@@ -35,6 +35,9 @@ meant bytes glyphs (command.Open table chained) = opens (cut table bytes) chaine
 meant bytes glyphs (command.OpenWide table parts) = opensWide (cut table bytes) parts
 meant bytes glyphs (command.Hit subtable place at) = hit subtable place (cut at glyphs)
 meant bytes glyphs (command.Applies subtable zeroContext at) = applies subtable zeroContext (cut at glyphs)
+meant bytes glyphs command.Aside = aside
+meant bytes glyphs (command.Masks subtable) = masks subtable
+meant bytes glyphs (command.Words subtable count) = words subtable count
 
 -- a line with what stands at its spans
 abbrev pub said : (bytes glyphs : List ℕ) → Result Command Fault → Result Said Fault
@@ -57,6 +60,9 @@ Stands bytes glyphs (command.Open table chained) = Inside table bytes
 Stands bytes glyphs (command.OpenWide table parts) = Inside table bytes
 Stands bytes glyphs (command.Hit subtable place at) = Inside at glyphs
 Stands bytes glyphs (command.Applies subtable zeroContext at) = Inside at glyphs
+Stands bytes glyphs command.Aside = Unit {0}
+Stands bytes glyphs (command.Masks subtable) = Unit {0}
+Stands bytes glyphs (command.Words subtable count) = Unit {0}
 
 abbrev pub LineStands : (bytes glyphs : List ℕ) → Result Command Fault → Type 0
 LineStands bytes glyphs (Ok c) = Stands bytes glyphs c

@@ -7,7 +7,7 @@ use Rattle.std.specs.shelf.Text.{sameBytes}
 use Rattle.std.specs.declared.option.Option.{Option}
 use Rattle.std.specs.declared.option.Option.the-variants.{Some, None}
 use Rattle.script.specs.declared.command.Verb.{Verb}
-use Rattle.script.specs.declared.command.Verb.the-variants.{Coverage, Class, DigestOf, DigestSpan, Allowance, Left, Open, OpenWide, Hit, Applies}
+use Rattle.script.specs.declared.command.Verb.the-variants.{Coverage, Class, DigestOf, DigestSpan, Allowance, Left, Open, OpenWide, Hit, Applies, Aside, Masks, Words}
 
 abbrev pub nameOf : Verb → List ℕ
 nameOf Coverage = codes "coverage"
@@ -20,9 +20,12 @@ nameOf Open = codes "open"
 nameOf OpenWide = codes "open-wide"
 nameOf Hit = codes "hit"
 nameOf Applies = codes "applies"
+nameOf Aside = codes "aside"
+nameOf Masks = codes "masks"
+nameOf Words = codes "words"
 
 abbrev pub verbs : List Verb
-verbs = Coverage ∷ Class ∷ DigestOf ∷ DigestSpan ∷ Allowance ∷ Left ∷ Open ∷ OpenWide ∷ Hit ∷ Applies ∷ []
+verbs = Coverage ∷ Class ∷ DigestOf ∷ DigestSpan ∷ Allowance ∷ Left ∷ Open ∷ OpenWide ∷ Hit ∷ Applies ∷ Aside ∷ Masks ∷ Words ∷ []
 
 -- the first of these verbs that a word names
 abbrev pub firstNamed : List ℕ → List Verb → Option Verb

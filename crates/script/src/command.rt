@@ -18,6 +18,9 @@ pub enum Verb {
     OpenWide,
     Hit,
     Applies,
+    Aside,
+    Masks,
+    Words,
 }
 
 /// A command with its arguments. Bytes and glyphs stand in the script's buffers.
@@ -71,11 +74,22 @@ pub enum Command {
         zero_context: bool,
         glyphs: Span,
     },
+    /// Puts the last listed subtable aside.
+    Aside,
+    /// Puts the filter call to a listed subtable.
+    Masks {
+        subtable: u32,
+    },
+    /// Fills the rule-set words of a listed subtable into a buffer of so many words.
+    Words {
+        subtable: u32,
+        count: u32,
+    },
 }
 
 impl Verb {
     /// Every verb.
-    const ALL: [Verb; 10] = [
+    const ALL: [Verb; 13] = [
         Verb::Coverage,
         Verb::Class,
         Verb::DigestOf,
@@ -86,6 +100,9 @@ impl Verb {
         Verb::OpenWide,
         Verb::Hit,
         Verb::Applies,
+        Verb::Aside,
+        Verb::Masks,
+        Verb::Words,
     ];
 
     /// The word that names the verb.
@@ -103,6 +120,9 @@ impl Verb {
             Verb::OpenWide => "open-wide",
             Verb::Hit => "hit",
             Verb::Applies => "applies",
+            Verb::Aside => "aside",
+            Verb::Masks => "masks",
+            Verb::Words => "words",
         }
     }
 

@@ -17,13 +17,14 @@ use crate::appended::table;
 use crate::command::Command;
 use crate::command::Verb;
 use arguments::no_words;
+use arguments::subtable_alone;
 use arguments::subtable_and_flag;
 use arguments::subtable_and_place;
 use arguments::table_and_chained;
 use arguments::table_and_glyph;
 use arguments::table_and_parts;
 use arguments::two_amounts;
-use arguments::two_glyphs;
+use arguments::two_numbers;
 use std::alloc::AllocError;
 use std::alloc::Global;
 use words::fault::Fault;
@@ -106,7 +107,7 @@ impl Script {
                 Ok(Command::DigestOf { glyphs })
             }
             Verb::DigestSpan => {
-                let (first, last) = two_glyphs(words)?;
+                let (first, last) = two_numbers(words)?;
                 Ok(Command::DigestSpan { first, last })
             }
             Verb::Allowance => {
@@ -144,6 +145,18 @@ impl Script {
                     zero_context,
                     glyphs,
                 })
+            }
+            Verb::Aside => {
+                no_words(words)?;
+                Ok(Command::Aside)
+            }
+            Verb::Masks => {
+                let subtable = subtable_alone(words)?;
+                Ok(Command::Masks { subtable })
+            }
+            Verb::Words => {
+                let (subtable, count) = two_numbers(words)?;
+                Ok(Command::Words { subtable, count })
             }
         }
     }
