@@ -26,6 +26,13 @@ tableOf ws = andThen (twoOf ws) (λ p. andThen (decimalIn (2 ^ 32) (p .1)) (λ g
 abbrev pub openOf : List (List ℕ) → Result (List ℕ × Bool) Fault
 openOf ws = andThen (twoOf ws) (λ p. andThen (chainedIn (p .0)) (λ chained. Ok (p .1, chained)))
 
+-- a count, and a flag; each with the words after it
+abbrev pub countOf : List (List ℕ) → Result (ℕ × List (List ℕ)) Fault
+countOf ws = andThen (nextWord ws) (λ p. andThen (decimalIn (2 ^ 32) (p .0)) (λ n. Ok (n, p .1)))
+
+abbrev pub flagOf : List (List ℕ) → Result (Bool × List (List ℕ)) Fault
+flagOf ws = andThen (nextWord ws) (λ p. andThen (flagIn (p .0)) (λ z. Ok (z, p .1)))
+
 -- the number of a subtable and a place; the number of a subtable and a flag; each with the words after them
 abbrev pub hitOf : List (List ℕ) → Result ((ℕ × ℕ) × List (List ℕ)) Fault
 hitOf ws =

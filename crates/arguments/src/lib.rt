@@ -6,6 +6,8 @@ mod simple;
 
 pub use counts::no_words;
 pub use parts::table_and_parts;
+pub use simple::next_count;
+pub use simple::next_flag;
 pub use simple::subtable_alone;
 pub use simple::subtable_and_flag;
 pub use simple::subtable_and_place;

@@ -74,6 +74,7 @@ impl<'a> Desk<'a> {
             Command::Aside => self.put_aside(),
             Command::Masks { subtable } => Ok(Reply::of(self.masks(subtable))),
             Command::Words { subtable, count } => self.words(subtable, count),
+            Command::Book | Command::OnBook(_) => Ok(Reply::NoBook),
         }
     }
 

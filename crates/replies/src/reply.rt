@@ -28,6 +28,8 @@ pub enum Reply {
     Refused(Refusal),
     /// There is no subtable to put aside.
     NothingListed,
+    /// A command wants a book, and there is none.
+    NoBook,
     /// A subtable has no rule-set words.
     NotClasses,
     /// A number is past the list of subtables.
@@ -104,6 +106,7 @@ pub impl fmt::Display for Reply as ReplyDisplay {
                 write_words(words.as_slice(), f)
             }
             Reply::NothingListed => f.write_str("error: nothing listed"),
+            Reply::NoBook => f.write_str("error: no book"),
             Reply::NotClasses => f.write_str("error: not a class subtable"),
             Reply::NoSubtable => f.write_str("error: no such subtable"),
         }

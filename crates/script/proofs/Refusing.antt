@@ -1,4 +1,4 @@
--- What a command that cannot be read leaves, and one on glyphs that were read.
+-- What a command that cannot be read leaves, and what one that was read leaves.
 use Prim.Native.Nat.{ℕ}
 use mathlib.Core.Path.{_≡_, refl, sym, ap, _∙_}
 use mathlib.Core.List.{List, [], _++_, append-nil}
@@ -35,4 +35,11 @@ pub glyphs-stand : (before : Script) (read : Result Said Fault) (glyphs : Vec �
 glyphs-stand before read glyphs d says s c is h means stands = (
   record { bytes = ([], sym (append-nil _)); glyphs = (h .0, h .2 .grown); lines = refl },
   (is ∙ ap (λ x. andThen x (λ gs. Ok (says gs))) (h .1) ∙ ap (λ l. Ok (says l)) (sym (h .2 .at)) ∙ ap Ok (sym means), stands (h .2 .inside)),
+)
+
+-- a command that stands on no bytes and no glyphs
+pub nothing-stored : (before : Script) (read : Result Said Fault) (c : Command) → read ≡ Ok (meant (vec-items (before .bytes)) (vec-items (before .glyphs)) c) → Stands (vec-items (before .bytes)) (vec-items (before .glyphs)) c → CommandRead read before before (Ok c)
+nothing-stored before read c is stands = (
+  record { bytes = ([], sym (append-nil _)); glyphs = ([], sym (append-nil _)); lines = refl },
+  (is, stands),
 )
