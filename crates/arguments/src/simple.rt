@@ -1,12 +1,13 @@
-//! Arguments in two words, or in the first two of more.
+//! Arguments in one word, in two, or in the first two of more.
 ghost use mathlib.Core.Path.{_≡_};
 ghost use Prim.Native.Nat.{_^_};
 ghost use denote.Ref.{now};
 ghost use Rattle.std.specs.Results.{Cases};
 ghost use Rattle.std.specs.declared.result.Result.the-variants.{Ok, Err};
-ghost use Rattle.arguments.specs.Simple.{appliesOf, hitOf, numbersOf, openOf, tableOf};
+ghost use Rattle.arguments.specs.Simple.{appliesOf, countOf, flagOf, hitOf, numberOf, numbersOf, openOf, tableOf};
 ghost use Rattle.words.specs.Words.{wordsIn};
 use crate::counts::first_two;
+use crate::counts::no_words;
 use crate::counts::two_words;
 use crate::kinds::is_chained;
 use words::fault::Fault;
@@ -15,8 +16,19 @@ use words::numbers::decimal;
 use words::numbers::decimal_u32;
 use words::numbers::flag;
 
-/// The two glyphs that are left.
-pub fn two_glyphs(words: Words<'_>) -> Result<(u32, u32), Fault>
+/// The number of a subtable, the one word that is left.
+pub fn subtable_alone(mut words: Words<'_>) -> Result<u32, Fault>
+    ensures { λ r. ⌜ r ≡ numberOf (2 ^ 32) (wordsIn (now (words .entry .rest))) ⌝ }
+{
+    let Some(word) = words.next_word() else {
+        return Err(Fault::MissingWord);
+    };
+    no_words(words)?;
+    decimal_u32(word)
+}
+
+/// The two numbers below 2^32 that are left.
+pub fn two_numbers(words: Words<'_>) -> Result<(u32, u32), Fault>
     ensures { λ r. ⌜ r ≡ numbersOf (2 ^ 32) (wordsIn (now (words .entry .rest))) ⌝ }
 {
     let (first, second) = two_words(words)?;
@@ -71,4 +83,24 @@ pub fn subtable_and_flag(words: &mut Words<'_>) -> Result<(u32, bool), Fault>
     let subtable = decimal_u32(subtable)?;
     let zero_context = flag(zero_context)?;
     Ok((subtable, zero_context))
+}
+
+/// Takes a count.
+pub fn next_count(words: &mut Words<'_>) -> Result<u32, Fault>
+    ensures { λ r. let before = wordsIn (now (now (words .entry) .rest)) in ⌜ Cases r (λ n. countOf before ≡ Ok (n, wordsIn (now (now (words .exit) .rest)))) (λ f. countOf before ≡ Err f) ⌝ }
+{
+    let Some(count) = words.next_word() else {
+        return Err(Fault::MissingWord);
+    };
+    decimal_u32(count)
+}
+
+/// Takes a flag.
+pub fn next_flag(words: &mut Words<'_>) -> Result<bool, Fault>
+    ensures { λ r. let before = wordsIn (now (now (words .entry) .rest)) in ⌜ Cases r (λ z. flagOf before ≡ Ok (z, wordsIn (now (now (words .exit) .rest)))) (λ f. flagOf before ≡ Err f) ⌝ }
+{
+    let Some(zero_context) = words.next_word() else {
+        return Err(Fault::MissingWord);
+    };
+    flag(zero_context)
 }

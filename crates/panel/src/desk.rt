@@ -1,5 +1,7 @@
 //! What the commands of a script work on.
 use answers::Refusal;
+use bank::subtable::ContextSubtable;
+use context::subtable::AnySubtable;
 use context::subtable::Subtable;
 use digest::budget::Budget;
 use digest::set_digest::SetDigest;
@@ -14,8 +16,12 @@ use tables::class::ClassDef;
 use tables::coverage::Coverage;
 use words::span::Span;
 
+/// What every word of a buffer holds before a fill.
+const UNFILLED: u64 = 0x5555_5555_5555_5555;
+
 /// What the commands so far leave: the allowance, the subtables that are listed, and those that were put aside.
 pub struct Desk<'a> {
+    heap: Global,
     budget: Budget,
     listed: Vec<Subtable<'a>>,
     aside: Vec<Subtable<'a>>,
@@ -25,6 +31,7 @@ impl<'a> Desk<'a> {
     /// An allowance of nothing, and no subtables.
     pub fn new(heap: Global) -> Self {
         Desk {
+            heap,
             budget: Budget::new(0, 0),
             listed: Vec::new(heap),
             aside: Vec::new(heap),
@@ -64,6 +71,10 @@ impl<'a> Desk<'a> {
                 zero_context,
                 glyphs,
             } => Ok(Reply::of(self.applies(subtable, zero_context, at(runs, glyphs)))),
+            Command::Aside => self.put_aside(),
+            Command::Masks { subtable } => Ok(Reply::of(self.masks(subtable))),
+            Command::Words { subtable, count } => self.words(subtable, count),
+            Command::Book | Command::OnBook(_) => Ok(Reply::NoBook),
         }
     }
 
@@ -112,9 +123,52 @@ impl<'a> Desk<'a> {
         }
     }
 
+    /// Puts the last listed subtable aside.
+    fn put_aside(&mut self) -> Result<Reply, AllocError> {
+        match self.listed.pop() {
+            Some(subtable) => {
+                let number = self.aside.len();
+                self.aside.push(subtable)?;
+                Ok(Reply::Aside(number))
+            }
+            None => Ok(Reply::NothingListed),
+        }
+    }
+
+    /// Puts the filter call to a listed subtable.
+    fn masks(&mut self, number: u32) -> Result<Reply, Refusal> {
+        match self.listed.get(number as usize) {
+            Some(subtable) => Ok(Reply::Masks(subtable.digest(&mut self.budget)?.masks())),
+            None => Ok(Reply::NoSubtable),
+        }
+    }
+
+    /// Fills the rule-set words of a listed subtable into a buffer of so many words.
+    fn words(&mut self, number: u32, count: u32) -> Result<Reply, AllocError> {
+        match self.listed.get(number as usize) {
+            Some(Subtable::Classes(view)) => {
+                let mut words = Vec::new(self.heap);
+                for _ in 0..count {
+                    words.push(UNFILLED)?;
+                }
+                match view.fill_words(&mut words, &mut self.budget) {
+                    Ok(()) => Ok(Reply::Words {
+                        count: view.sets.len(),
+                        words,
+                    }),
+                    Err(Refusal::ShortBuffer) => Ok(Reply::Refused(Refusal::ShortBuffer)),
+                    Err(refusal) => Ok(Reply::WordsRefused { refusal, words }),
+                }
+            }
+            Some(_) => Ok(Reply::NotClasses),
+            None => Ok(Reply::NoSubtable),
+        }
+    }
+
     /// Lets everything go.
     pub fn end(self) {
         let Desk {
+            heap: _,
             budget,
             listed: _,
             aside: _,

@@ -6,7 +6,7 @@ use answers::Refusal;
 use std::fmt;
 
 /// The answer to a command.
-#[derive(Clone, Copy)]
+#[derive(Drop)]
 pub enum Reply {
     /// A coverage index, or that the glyph is not covered.
     Index(Option<u32>),
@@ -19,7 +19,19 @@ pub enum Reply {
     /// A hit, or that there is none.
     Hit(Option<Hit>),
     Applies(bool),
+    /// The number of a subtable that was put aside.
+    Aside(usize),
+    /// How many rule sets there are, and the whole buffer with their words.
+    Words { count: u32, words: Vec<u64> },
+    /// A fill that was refused on its way, and the whole buffer as it left it.
+    WordsRefused { refusal: Refusal, words: Vec<u64> },
     Refused(Refusal),
+    /// There is no subtable to put aside.
+    NothingListed,
+    /// A command wants a book, and there is none.
+    NoBook,
+    /// A subtable has no rule-set words.
+    NotClasses,
     /// A number is past the list of subtables.
     NoSubtable,
 }
@@ -57,17 +69,25 @@ fn write_masks<W: fmt::Write>(masks: [u64; 3], f: &mut fmt::Formatter<W>) -> fmt
     write!(f, "masks {first:016X} {second:016X} {third:016X}")
 }
 
+/// Writes words, each behind a space.
+fn write_words<W: fmt::Write>(words: &[u64], f: &mut fmt::Formatter<W>) -> fmt::Result {
+    for word in words {
+        write!(f, " {word:016X}")?;
+    }
+    Ok(())
+}
+
 pub impl fmt::Display for Reply as ReplyDisplay {
     fn fmt<W: fmt::Write>(&self, f: &mut fmt::Formatter<W>) -> fmt::Result {
-        match *self {
+        match self {
             Reply::Index(Some(index)) => write!(f, "index {index}"),
             Reply::Index(None) => f.write_str("not covered"),
             Reply::Class(class) => write!(f, "class {class}"),
-            Reply::Masks(masks) => write_masks(masks, f),
+            Reply::Masks(masks) => write_masks(*masks, f),
             Reply::Allowance { work, bytes } => write!(f, "allowance {work} {bytes}"),
             Reply::Left { work, bytes } => write!(f, "left {work} {bytes}"),
             Reply::Open(number) => write!(f, "open {number}"),
-            Reply::Hit(Some(hit)) => write_hit(hit, f),
+            Reply::Hit(Some(hit)) => write_hit(*hit, f),
             Reply::Hit(None) => f.write_str("none"),
             Reply::Applies(true) => f.write_str("yes"),
             Reply::Applies(false) => f.write_str("no"),
@@ -75,6 +95,19 @@ pub impl fmt::Display for Reply as ReplyDisplay {
                 let number = refusal.number();
                 write!(f, "refused {number}")
             }
+            Reply::Aside(number) => write!(f, "aside {number}"),
+            Reply::Words { count, words } => {
+                write!(f, "words {count}")?;
+                write_words(words.as_slice(), f)
+            }
+            Reply::WordsRefused { refusal, words } => {
+                let number = refusal.number();
+                write!(f, "refused {number}")?;
+                write_words(words.as_slice(), f)
+            }
+            Reply::NothingListed => f.write_str("error: nothing listed"),
+            Reply::NoBook => f.write_str("error: no book"),
+            Reply::NotClasses => f.write_str("error: not a class subtable"),
             Reply::NoSubtable => f.write_str("error: no such subtable"),
         }
     }

@@ -20,11 +20,13 @@ use Rattle.words.specs.Words.{wordsIn}
 use Rattle.words.specs.declared.fault.Fault.{Fault}
 use Rattle.words.specs.declared.fault.Fault.the-variants.{NoMemory}
 use Rattle.words.specs.declared.span.Span.{Span}
-use Rattle.script.specs.Lines.{Said, coverage, class, digestOf, opens, opensWide, hit, applies, saidBy, wordsSaid, lineSaid, scriptIn}
-use Rattle.script.specs.Meant.{cut, Inside, meant, said, Stands, LineStands, Faulty, CommandRead, Sound, saidOf}
+use Rattle.script.specs.Lines.{Said, coverage, class, digestOf, opens, opensWide, hit, applies, wouldApply, scan, saidBy, wordsSaid, lineSaid, scriptIn}
+use Rattle.script.specs.Meant.{cut, Inside, meant, meantOnBook, said, Stands, StandsOnBook, LineStands, Faulty, CommandRead, Sound, saidOf}
 use Rattle.script.specs.Verbs.{verbIn}
 use Rattle.script.specs.declared.command.Command.{Command}
 use Rattle.script.specs.declared.command.Command.the-variants as command
+use Rattle.script.specs.declared.command.BookCommand.{BookCommand}
+use Rattle.script.specs.declared.command.BookCommand.the-variants as onBook
 use Rattle.script.specs.declared.reader.Script.{Script}
 
 cut-grown : (s : Span) (xs more : List ℕ) → Inside s xs → cut s (xs ++ more) ≡ cut s xs
@@ -34,6 +36,29 @@ cut-grown s xs more h =
 
 inside-grown : (s : Span) (xs more : List ℕ) → Inside s xs → Inside s (xs ++ more)
 inside-grown s xs more h = (h .0, simp length-append (omega arith))
+
+module _ (gs y : List ℕ) where
+  book-meant-grown : (c : BookCommand) → StandsOnBook gs c → meantOnBook (gs ++ y) c ≡ meantOnBook gs c
+  book-meant-grown (onBook.Filter subtable) h = refl
+  book-meant-grown (onBook.Forget subtable) h = refl
+  book-meant-grown (onBook.State subtable) h = refl
+  book-meant-grown (onBook.MasksBeside subtable) h = refl
+  book-meant-grown (onBook.WordsBeside subtable count) h = refl
+  book-meant-grown (onBook.WouldApply zeroContext at) h = ap (wouldApply zeroContext) (cut-grown at gs y h)
+  book-meant-grown (onBook.Scan count at) h = ap (scan count) (cut-grown at gs y h)
+  book-meant-grown onBook.Anew h = refl
+  book-meant-grown onBook.End h = refl
+
+  book-stands-grown : (c : BookCommand) → StandsOnBook gs c → StandsOnBook (gs ++ y) c
+  book-stands-grown (onBook.Filter subtable) h = tt
+  book-stands-grown (onBook.Forget subtable) h = tt
+  book-stands-grown (onBook.State subtable) h = tt
+  book-stands-grown (onBook.MasksBeside subtable) h = tt
+  book-stands-grown (onBook.WordsBeside subtable count) h = tt
+  book-stands-grown (onBook.WouldApply zeroContext at) h = inside-grown at gs y h
+  book-stands-grown (onBook.Scan count at) h = inside-grown at gs y h
+  book-stands-grown onBook.Anew h = tt
+  book-stands-grown onBook.End h = tt
 
 module _ (bs gs x y : List ℕ) where
   meant-grown : (c : Command) → Stands bs gs c → meant (bs ++ x) (gs ++ y) c ≡ meant bs gs c
@@ -47,6 +72,11 @@ module _ (bs gs x y : List ℕ) where
   meant-grown (command.OpenWide table parts) h = ap (λ t. opensWide t parts) (cut-grown table bs x h)
   meant-grown (command.Hit subtable place at) h = ap (hit subtable place) (cut-grown at gs y h)
   meant-grown (command.Applies subtable zeroContext at) h = ap (applies subtable zeroContext) (cut-grown at gs y h)
+  meant-grown command.Aside h = refl
+  meant-grown (command.Masks subtable) h = refl
+  meant-grown (command.Words subtable count) h = refl
+  meant-grown command.Book h = refl
+  meant-grown (command.OnBook c) h = book-meant-grown gs y c h
 
   stands-grown : (c : Command) → Stands bs gs c → Stands (bs ++ x) (gs ++ y) c
   stands-grown (command.Coverage table glyph) h = inside-grown table bs x h
@@ -59,6 +89,11 @@ module _ (bs gs x y : List ℕ) where
   stands-grown (command.OpenWide table parts) h = inside-grown table bs x h
   stands-grown (command.Hit subtable place at) h = inside-grown at gs y h
   stands-grown (command.Applies subtable zeroContext at) h = inside-grown at gs y h
+  stands-grown command.Aside h = tt
+  stands-grown (command.Masks subtable) h = tt
+  stands-grown (command.Words subtable count) h = tt
+  stands-grown command.Book h = tt
+  stands-grown (command.OnBook c) h = book-stands-grown gs y c h
 
   lines-grown : (ls : List (Result Command Fault)) → All (LineStands bs gs) ls → map (said (bs ++ x) (gs ++ y)) ls ≡ map (said bs gs) ls
   lines-grown [] h = refl

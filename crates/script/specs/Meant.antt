@@ -8,9 +8,11 @@ use Rattle.std.specs.Results.{Cases}
 use Rattle.std.specs.shelf.Lists.{All}
 use Rattle.std.specs.declared.result.Result.{Result}
 use Rattle.std.specs.declared.result.Result.the-variants.{Ok, Err}
-use Rattle.script.specs.Lines.{Said, coverage, class, digestOf, digestSpan, allowance, left, opens, opensWide, hit, applies}
+use Rattle.script.specs.Lines.{Said, coverage, class, digestOf, digestSpan, allowance, left, opens, opensWide, hit, applies, aside, masks, words, book, filter, forget, state, wouldApply, scan, masksBeside, wordsBeside, anew, end}
 use Rattle.script.specs.declared.command.Command.{Command}
 use Rattle.script.specs.declared.command.Command.the-variants as command
+use Rattle.script.specs.declared.command.BookCommand.{BookCommand}
+use Rattle.script.specs.declared.command.BookCommand.the-variants as onBook
 use Rattle.words.specs.declared.fault.Fault.{Fault}
 use Rattle.words.specs.declared.fault.Fault.the-variants.{NoMemory}
 use Rattle.script.specs.declared.reader.Script.{Script}
@@ -22,6 +24,18 @@ cut s xs = take (s .end - s .start) (drop (s .start) xs)
 
 abbrev pub Inside : Span → List ℕ → Type 0
 Inside s xs = (s .start ≤ s .end) × (s .end ≤ length xs)
+
+-- a command on a book with what stands at its spans
+abbrev pub meantOnBook : (glyphs : List ℕ) → BookCommand → Said
+meantOnBook glyphs (onBook.Filter subtable) = filter subtable
+meantOnBook glyphs (onBook.Forget subtable) = forget subtable
+meantOnBook glyphs (onBook.State subtable) = state subtable
+meantOnBook glyphs (onBook.WouldApply zeroContext at) = wouldApply zeroContext (cut at glyphs)
+meantOnBook glyphs (onBook.Scan count at) = scan count (cut at glyphs)
+meantOnBook glyphs (onBook.MasksBeside subtable) = masksBeside subtable
+meantOnBook glyphs (onBook.WordsBeside subtable count) = wordsBeside subtable count
+meantOnBook glyphs onBook.Anew = anew
+meantOnBook glyphs onBook.End = end
 
 -- a command with what stands at its spans
 abbrev pub meant : (bytes glyphs : List ℕ) → Command → Said
@@ -35,6 +49,11 @@ meant bytes glyphs (command.Open table chained) = opens (cut table bytes) chaine
 meant bytes glyphs (command.OpenWide table parts) = opensWide (cut table bytes) parts
 meant bytes glyphs (command.Hit subtable place at) = hit subtable place (cut at glyphs)
 meant bytes glyphs (command.Applies subtable zeroContext at) = applies subtable zeroContext (cut at glyphs)
+meant bytes glyphs command.Aside = aside
+meant bytes glyphs (command.Masks subtable) = masks subtable
+meant bytes glyphs (command.Words subtable count) = words subtable count
+meant bytes glyphs command.Book = book
+meant bytes glyphs (command.OnBook c) = meantOnBook glyphs c
 
 -- a line with what stands at its spans
 abbrev pub said : (bytes glyphs : List ℕ) → Result Command Fault → Result Said Fault
@@ -44,6 +63,18 @@ said bytes glyphs (Err f) = Err f
 -- what all lines of a script say
 abbrev pub saidOf : Script → List (Result Said Fault)
 saidOf s = map (said (vec-items (s .bytes)) (vec-items (s .glyphs))) (vec-items (s .lines))
+
+-- a command on a book stands where its span is inside the glyphs
+abbrev pub StandsOnBook : (glyphs : List ℕ) → BookCommand → Type 0
+StandsOnBook glyphs (onBook.Filter subtable) = Unit {0}
+StandsOnBook glyphs (onBook.Forget subtable) = Unit {0}
+StandsOnBook glyphs (onBook.State subtable) = Unit {0}
+StandsOnBook glyphs (onBook.WouldApply zeroContext at) = Inside at glyphs
+StandsOnBook glyphs (onBook.Scan count at) = Inside at glyphs
+StandsOnBook glyphs (onBook.MasksBeside subtable) = Unit {0}
+StandsOnBook glyphs (onBook.WordsBeside subtable count) = Unit {0}
+StandsOnBook glyphs onBook.Anew = Unit {0}
+StandsOnBook glyphs onBook.End = Unit {0}
 
 -- a command stands where its spans are inside the buffers
 abbrev pub Stands : (bytes glyphs : List ℕ) → Command → Type 0
@@ -57,6 +88,11 @@ Stands bytes glyphs (command.Open table chained) = Inside table bytes
 Stands bytes glyphs (command.OpenWide table parts) = Inside table bytes
 Stands bytes glyphs (command.Hit subtable place at) = Inside at glyphs
 Stands bytes glyphs (command.Applies subtable zeroContext at) = Inside at glyphs
+Stands bytes glyphs command.Aside = Unit {0}
+Stands bytes glyphs (command.Masks subtable) = Unit {0}
+Stands bytes glyphs (command.Words subtable count) = Unit {0}
+Stands bytes glyphs command.Book = Unit {0}
+Stands bytes glyphs (command.OnBook c) = StandsOnBook glyphs c
 
 abbrev pub LineStands : (bytes glyphs : List ℕ) → Result Command Fault → Type 0
 LineStands bytes glyphs (Ok c) = Stands bytes glyphs c

@@ -7,23 +7,28 @@ ghost use lib.ListN.{drop, getD};
 ghost use Rattle.std.specs.Orderings.{Decides};
 ghost use Rattle.std.specs.Vec.{made};
 ghost use Rattle.std.specs.declared.result.Result.the-variants.{Err};
-ghost use Rattle.script.specs.Lines.{lineSaid, saidBy, scriptIn};
+ghost use Rattle.script.specs.Lines.{lineSaid, saidBy, saidOnBook, scriptIn};
 ghost use Rattle.script.specs.Meant.{CommandRead, Sound, saidOf};
 ghost use Rattle.script.specs.Verbs.{verbIn};
 ghost use Rattle.words.specs.declared.fault.Fault.the-variants.{NoMemory};
 ghost use Rattle.words.specs.Words.{wordsIn};
 use crate::appended::all_glyphs;
 use crate::appended::table;
+use crate::command::BookCommand;
+use crate::command::BookVerb;
 use crate::command::Command;
 use crate::command::Verb;
+use arguments::next_count;
+use arguments::next_flag;
 use arguments::no_words;
+use arguments::subtable_alone;
 use arguments::subtable_and_flag;
 use arguments::subtable_and_place;
 use arguments::table_and_chained;
 use arguments::table_and_glyph;
 use arguments::table_and_parts;
 use arguments::two_amounts;
-use arguments::two_glyphs;
+use arguments::two_numbers;
 use std::alloc::AllocError;
 use std::alloc::Global;
 use words::fault::Fault;
@@ -106,7 +111,7 @@ impl Script {
                 Ok(Command::DigestOf { glyphs })
             }
             Verb::DigestSpan => {
-                let (first, last) = two_glyphs(words)?;
+                let (first, last) = two_numbers(words)?;
                 Ok(Command::DigestSpan { first, last })
             }
             Verb::Allowance => {
@@ -144,6 +149,72 @@ impl Script {
                     zero_context,
                     glyphs,
                 })
+            }
+            Verb::Aside => {
+                no_words(words)?;
+                Ok(Command::Aside)
+            }
+            Verb::Masks => {
+                let subtable = subtable_alone(words)?;
+                Ok(Command::Masks { subtable })
+            }
+            Verb::Words => {
+                let (subtable, count) = two_numbers(words)?;
+                Ok(Command::Words { subtable, count })
+            }
+            Verb::Book => {
+                no_words(words)?;
+                Ok(Command::Book)
+            }
+            Verb::OnBook(verb) => self.on_book(verb, words),
+        }
+    }
+
+    /// The command on a book of a verb and the words after it; its glyphs are appended.
+    fn on_book(&mut self, verb: BookVerb, mut words: Words<'_>) -> Result<Command, Fault>
+        ensures { λ r. ⌜ CommandRead (saidOnBook verb (wordsIn (now (words .entry .rest)))) (now (self .entry)) (now (self .exit)) r ⌝ }
+    {
+        match verb {
+            BookVerb::Filter => {
+                let subtable = subtable_alone(words)?;
+                Ok(Command::OnBook(BookCommand::Filter { subtable }))
+            }
+            BookVerb::Forget => {
+                let subtable = subtable_alone(words)?;
+                Ok(Command::OnBook(BookCommand::Forget { subtable }))
+            }
+            BookVerb::State => {
+                let subtable = subtable_alone(words)?;
+                Ok(Command::OnBook(BookCommand::State { subtable }))
+            }
+            BookVerb::WouldApply => {
+                let zero_context = next_flag(&mut words)?;
+                let glyphs = all_glyphs(words, &mut self.glyphs)?;
+                Ok(Command::OnBook(BookCommand::WouldApply {
+                    zero_context,
+                    glyphs,
+                }))
+            }
+            BookVerb::Scan => {
+                let count = next_count(&mut words)?;
+                let glyphs = all_glyphs(words, &mut self.glyphs)?;
+                Ok(Command::OnBook(BookCommand::Scan { count, glyphs }))
+            }
+            BookVerb::MasksBeside => {
+                let subtable = subtable_alone(words)?;
+                Ok(Command::OnBook(BookCommand::MasksBeside { subtable }))
+            }
+            BookVerb::WordsBeside => {
+                let (subtable, count) = two_numbers(words)?;
+                Ok(Command::OnBook(BookCommand::WordsBeside { subtable, count }))
+            }
+            BookVerb::Anew => {
+                no_words(words)?;
+                Ok(Command::OnBook(BookCommand::Anew))
+            }
+            BookVerb::End => {
+                no_words(words)?;
+                Ok(Command::OnBook(BookCommand::End))
             }
         }
     }
