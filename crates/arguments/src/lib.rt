@@ -1,4 +1,6 @@
 //! The arguments of a script's commands: what the words after a command's first say.
+#![tactic(auto)]
+
 mod counts;
 mod kinds;
 mod parts;

@@ -1,5 +1,7 @@
 //! Banks of context subtables: what matching and filtering by a bank mean, a bank of one subtable, two banks joined, and
 //! questions to any bank.
+#![tactic(auto)]
+
 pub mod join;
 pub mod one;
 pub mod search;

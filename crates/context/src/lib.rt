@@ -1,4 +1,6 @@
 //! Context subtables of the three kinds, as views over a subtable's bytes: would they apply, and where do they match?
+#![tactic(auto)]
+
 pub mod classes;
 pub mod coverages;
 mod filtered;

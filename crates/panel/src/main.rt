@@ -1,4 +1,6 @@
 //! Works a script off: reads it from standard input, and prints one answer line for each command.
+#![tactic(auto)]
+
 mod desk;
 mod sheet;
 

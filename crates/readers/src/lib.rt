@@ -1,6 +1,8 @@
 //! Numbers and child tables, read in place from a font's bytes.
 //!
 //! Reading is total: a byte past the end is 0, a table past the end is none.
+#![tactic(auto)]
+
 pub mod bytes;
 pub mod uints;
 pub mod width;

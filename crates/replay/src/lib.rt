@@ -1,4 +1,6 @@
 //! Any sheet of calls on a new book, and the promise that it keeps.
+#![tactic(auto)]
+
 pub mod auditing;
 pub mod turns;
 pub mod working;

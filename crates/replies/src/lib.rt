@@ -1,2 +1,4 @@
 //! The answers that the program prints.
+#![tactic(auto)]
+
 pub mod reply;

@@ -1,4 +1,6 @@
 //! The words of a class subtable's rule sets: which first input classes the rules of each set have, modulo 64.
+#![tactic(auto)]
+
 ghost use Rattle.std.specs.Prelude.{◌≡◌, ℕ, ◌+◌, ◌^◌, ◌<◌, ◌≤◌, Bool, length, is_ok, IfOk, Some, slice_index};
 ghost use Rattle.std.specs.Option.{unwrap_or};
 ghost use Rattle.opentype.specs.Draws.{Drew};

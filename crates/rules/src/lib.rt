@@ -1,4 +1,6 @@
 //! Rule sets and rules of context subtables, read in place, and matching their values to glyphs.
+#![tactic(auto)]
+
 pub mod apply;
 pub mod matching;
 pub mod parsed;
