@@ -2,7 +2,7 @@
 -- Assumes nothing.
 use Rattle.std.proofs.Common.{◌≡◌, ℕ, ◌+◌, ◌-◌, ◌*◌, ◌<◌, ◌≤◌, Bool, true, false, cond, leb, List, [], ◌∷◌, ◌++◌, length, get_or, take, drop, set, is_ok, Some, None, Ok, Err, Option, sym, refl, ap, ◌∙◌, arith}
 use Rattle.std.proofs.lemmas.List.{append-nil, append_assoc, length-append, length_push, drop_more, drop_all, set_at, take_all, take_at}
-use Rattle.std.proofs.lemmas.Bool.{cond_true, le-leb, leb-true, lt-leb, true≢false}
+use Rattle.std.proofs.lemmas.Bool.{cond-true, le-leb, leb-true, lt-leb, true≢false}
 use Rattle.std.specs.Option.{option_to_list}
 use Rattle.answers.specs.Questions.{answered, run_refused}
 use Rattle.answers.specs.declared.hit.Hit.{Hit}
@@ -82,11 +82,11 @@ module _ (bank : List Subtable) (slots : List Slot) (run : List ℕ) (old : List
 
     by_room : (fits : Bool) → length run ≤ 65536 → leb (length all) (length old) ≡ fits → scan_answer bank slots run (length old) ≡ cond fits (Ok (record { hits = length all; tries = tries_in bank slots run })) (Err ListFull)
     by_room fits few e =
-        cond_true (leb (length run) 65536) _ (Err TooLong) (le-leb (length run) 65536 few)
+        cond-true (leb (length run) 65536) _ (Err TooLong) (le-leb (length run) 65536 few)
         ∙ ap (λ b. cond b (Ok (record { hits = length all; tries = tries_in bank slots run })) (Err ListFull)) e
 
     written_is : length run ≤ 65536 → hits ≡ written all old → hits ≡ scan_list bank slots run old
-    written_is few e = e ∙ sym (cond_true (leb (length run) 65536) _ old (le-leb (length run) 65536 few))
+    written_is few e = e ∙ sym (cond-true (leb (length run) 65536) _ old (le-leb (length run) 65536 few))
 
     -- a hit that the list does not take: it has the first ones
     pub scanned_full : (h : Hit) → length run ≤ 65536 → p < length run → length old ≤ found → hit_at bank slots run p ≡ Some h → (Err ListFull ≡ scan_answer bank slots run (length old)) × (hits ≡ scan_list bank slots run old)

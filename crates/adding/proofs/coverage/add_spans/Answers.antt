@@ -15,6 +15,6 @@ pub loop-k-preserved : goal.loop-k-preserved
 loop-k-preserved c =
     let all = ranges_of c.args.ranges.now in
     adds_on (λ (k : ℕ) (ms : List ℕ). add_span ms (all.start k) (all.end k))
-    c.loop-k.k c.args.digest.now.masks c.loop-k.digest.masks c.add-range.new.self.masks c.loop-k.invariant
-    (span_added c.loop-k.digest.masks c.add-range.new.self.masks c.bounds-start.result.0 c.bounds-start.result.1
-    (all.start c.loop-k.k) (all.end c.loop-k.k) c.add-range.ensures.value c.bounds-start.ensures.start c.bounds-start.ensures.end)
+    c.loop-k.k c.args.digest.now.masks c.loop-k.digest.masks c.add_range.new.self.masks c.loop-k.invariant
+    (span_added c.loop-k.digest.masks c.add_range.new.self.masks c.bounds-start.result.0 c.bounds-start.result.1
+    (all.start c.loop-k.k) (all.end c.loop-k.k) c.add_range.ensures.value c.bounds-start.ensures.start c.bounds-start.ensures.end)

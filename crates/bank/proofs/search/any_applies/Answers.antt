@@ -9,12 +9,12 @@ pub returns-then-branch : goal.returns-then-branch
 returns-then-branch g c =
     let bank = g.B.Matching.meaning c.args.bank.now in
     let glyphs = c.args.glyphs.now in
-    let bare = c.args.zero-context in
+    let bare = c.args.zero_context in
     let k = c.loop-k.k in
-    let here = answer_is (list_refused (length glyphs)) _ ((subtable bank k).matching.applies glyphs bare) true c.in-ok-would-apply.ensures.value c.if-branch.true in
+    let here = answer_is (list_refused (length glyphs)) _ ((subtable bank k).matching.applies glyphs bare) true c.in_ok-would_apply.ensures.value c.if-branch.true in
     let some = some_applies_at bank glyphs bare k (omega arith) here in
     record {
-      value = passed (list_refused (length glyphs)) _ true (some_applies bank glyphs bare) c.in-ok-ask-list.ensures some;
+      value = passed (list_refused (length glyphs)) _ true (some_applies bank glyphs bare) c.in_ok-ask_list.ensures some;
       exactly = decides_some bank glyphs bare true some;
     }
 
@@ -22,18 +22,18 @@ pub loop-k-preserved : goal.loop-k-preserved
 loop-k-preserved g c =
     let bank = g.B.Matching.meaning c.args.bank.now in
     let glyphs = c.args.glyphs.now in
-    let bare = c.args.zero-context in
+    let bare = c.args.zero_context in
     let k = c.loop-k.k in
     unapplied_more bank glyphs bare k c.loop-k.invariant
-    (answer_is (list_refused (length glyphs)) _ ((subtable bank k).matching.applies glyphs bare) false c.in-ok-would-apply.ensures.value c.if-branch.false)
+    (answer_is (list_refused (length glyphs)) _ ((subtable bank k).matching.applies glyphs bare) false c.in_ok-would_apply.ensures.value c.if-branch.false)
 
 pub returns : goal.returns
 returns g c =
     let bank = g.B.Matching.meaning c.args.bank.now in
     let glyphs = c.args.glyphs.now in
-    let bare = c.args.zero-context in
+    let bare = c.args.zero_context in
     let none = none_applies bank glyphs bare c.loop-k.k (omega arith) c.loop-k.invariant in
     record {
-      value = passed (list_refused (length glyphs)) _ false (some_applies bank glyphs bare) c.in-ok-ask-list.ensures none;
+      value = passed (list_refused (length glyphs)) _ false (some_applies bank glyphs bare) c.in_ok-ask_list.ensures none;
       exactly = decides_some bank glyphs bare false none;
     }

@@ -14,10 +14,10 @@ returns-in-Some g c =
     let k = c.loop-k.k in
     let hit = c.in-Some.hit in
     let below : k < length bank = omega arith in
-    let here = answer_is (place_refused (length run) place) _ (hit_of (subtable bank k) k run place) (Some hit) c.in-ok-hit.ensures.value c.in-Some.is in
+    let here = answer_is (place_refused (length run) place) _ (hit_of (subtable bank k) k run place) (Some hit) c.in_ok-hit.ensures.value c.in-Some.is in
     let p = told_some place k ((subtable bank k).matching.finds run place) hit here in
     record {
-      value = passed (place_refused (length run) place) _ (Some hit) (first_hit bank run place) c.in-ok-ask-place.ensures
+      value = passed (place_refused (length run) place) _ (Some hit) (first_hit bank run place) c.in_ok-ask_place.ensures
           (some_first bank run place k hit below c.loop-k.invariant here);
       exactly = (k, p.0, below, p.1, p.2, c.loop-k.invariant);
     }
@@ -29,7 +29,7 @@ loop-k-preserved g c =
     let place = c.args.place in
     let k = c.loop-k.k in
     missed_more bank run place k c.loop-k.invariant (told_none place k ((subtable bank k).matching.finds run place)
-    (answer_is (place_refused (length run) place) _ (hit_of (subtable bank k) k run place) None c.in-ok-hit.ensures.value c.in-default.is))
+    (answer_is (place_refused (length run) place) _ (hit_of (subtable bank k) k run place) None c.in_ok-hit.ensures.value c.in_default.is))
 
 pub returns : goal.returns
 returns g c =
@@ -37,7 +37,7 @@ returns g c =
     let run = c.args.run.now in
     let place = c.args.place in
     record {
-      value = passed (place_refused (length run) place) _ None (first_hit bank run place) c.in-ok-ask-place.ensures
+      value = passed (place_refused (length run) place) _ None (first_hit bank run place) c.in_ok-ask_place.ensures
           (none_first bank run place (λ j l. c.loop-k.invariant j (omega arith)));
       exactly = λ j l. c.loop-k.invariant j (omega arith);
     }

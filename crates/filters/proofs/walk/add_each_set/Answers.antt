@@ -6,18 +6,18 @@ use Rattle.rules.specs.Views.{sets_of}
 use Rattle.adding.proofs.Turns.{walks_on, walks_out}
 use Rattle.filters.proofs.walk.add_each_set.Goals as goal
 
-pub returns-in-err-add-set : goal.returns-in-err-add-set
-returns-in-err-add-set g c =
+pub returns-in_err-add_set : goal.returns-in_err-add_set
+returns-in_err-add_set g c =
     let all = sets_of g.S.Width.bytes g.O.Width.bytes g.W.Width.bytes c.args.sets.now in
     let add = add_set (g.A.AddSecond.adding c.args.adding.now) in
-    let p = err_from_is_err_and c.from-residual.result c.from-residual.ensures.1 in
+    let p = err_from_is_err_and c.from_residual.result c.from_residual.ensures.1 in
     let within : c.loop-i.i < all.count = omega arith in
     record {
       carried =
           rw p.1
           (walks_out (λ k. add (all.entry k)) c.args.digest.now.masks (allowance_of c.args.budget.now)
-          c.loop-i.i c.loop-i.digest.masks (allowance_of c.loop-i.budget) c.loop-i.invariant all.count within (allowance_of c.add-set.new.budget) (Err p.0) c.add-set.new.digest.masks tt
-          c.in-err-add-set.ensures.carried);
+          c.loop-i.i c.loop-i.digest.masks (allowance_of c.loop-i.budget) c.loop-i.invariant all.count within (allowance_of c.add_set.new.budget) (Err p.0) c.add_set.new.digest.masks tt
+          c.in_err-add_set.ensures.carried);
     }
 
 pub returns-then-not-branch : goal.returns-then-not-branch
@@ -28,13 +28,13 @@ returns-then-not-branch g c =
     record {
       carried =
           walks_out (λ k. add (all.entry k)) c.args.digest.now.masks (allowance_of c.args.budget.now)
-          c.loop-i.i c.loop-i.digest.masks (allowance_of c.loop-i.budget) c.loop-i.invariant all.count within (allowance_of c.add-set.new.budget) (Ok false) c.add-set.new.digest.masks tt
-          (rw c.if-not-branch.true at c.in-ok-add-set.ensures.carried);
+          c.loop-i.i c.loop-i.digest.masks (allowance_of c.loop-i.budget) c.loop-i.invariant all.count within (allowance_of c.add_set.new.budget) (Ok false) c.add_set.new.digest.masks tt
+          (rw c.if-not-branch.true at c.in_ok-add_set.ensures.carried);
     }
 
 pub loop-i-preserved : goal.loop-i-preserved
 loop-i-preserved g c =
     let all = sets_of g.S.Width.bytes g.O.Width.bytes g.W.Width.bytes c.args.sets.now in
     walks_on (λ k. add_set (g.A.AddSecond.adding c.args.adding.now) (all.entry k)) c.args.digest.now.masks (allowance_of c.args.budget.now)
-    c.loop-i.i c.loop-i.digest.masks (allowance_of c.loop-i.budget) c.loop-i.invariant (allowance_of c.add-set.new.budget) c.add-set.new.digest.masks
-    (rw c.if-not-branch.false at c.in-ok-add-set.ensures.carried)
+    c.loop-i.i c.loop-i.digest.masks (allowance_of c.loop-i.budget) c.loop-i.invariant (allowance_of c.add_set.new.budget) c.add_set.new.digest.masks
+    (rw c.if-not-branch.false at c.in_ok-add_set.ensures.carried)

@@ -6,17 +6,17 @@ use Rattle.rules.specs.Views.{rules_of}
 use Rattle.adding.proofs.Turns.{walks_on, walks_out}
 use Rattle.filters.proofs.walk.add_rules.Goals as goal
 
-pub returns-in-err-add-rule-at : goal.returns-in-err-add-rule-at
-returns-in-err-add-rule-at g c =
+pub returns-in_err-add_rule_at : goal.returns-in_err-add_rule_at
+returns-in_err-add_rule_at g c =
     let all = rules_of g.O.Width.bytes g.W.Width.bytes c.args.layout c.args.rules.now in
-    let p = err_from_is_err_and c.from-residual.result c.from-residual.ensures.1 in
+    let p = err_from_is_err_and c.from_residual.result c.from_residual.ensures.1 in
     let within : c.loop-i.i < all.count = omega arith in
     record {
       carried =
           rw p.1
           (walks_out (λ k. add_rule (g.A.AddSecond.adding c.args.adding.now) (all.entry k)) c.args.digest.now.masks (allowance_of c.args.budget.now)
-          c.loop-i.i c.loop-i.digest.masks (allowance_of c.loop-i.budget) c.loop-i.invariant all.count within (allowance_of c.add-rule-at.new.budget) (Err p.0) c.add-rule-at.new.digest.masks tt
-          c.in-err-add-rule-at.ensures.carried);
+          c.loop-i.i c.loop-i.digest.masks (allowance_of c.loop-i.budget) c.loop-i.invariant all.count within (allowance_of c.add_rule_at.new.budget) (Err p.0) c.add_rule_at.new.digest.masks tt
+          c.in_err-add_rule_at.ensures.carried);
     }
 
 pub returns-then-not-branch : goal.returns-then-not-branch
@@ -26,13 +26,13 @@ returns-then-not-branch g c =
     record {
       carried =
           walks_out (λ k. add_rule (g.A.AddSecond.adding c.args.adding.now) (all.entry k)) c.args.digest.now.masks (allowance_of c.args.budget.now)
-          c.loop-i.i c.loop-i.digest.masks (allowance_of c.loop-i.budget) c.loop-i.invariant all.count within (allowance_of c.add-rule-at.new.budget) (Ok false) c.add-rule-at.new.digest.masks tt
-          (rw c.if-not-branch.true at c.in-ok-add-rule-at.ensures.carried);
+          c.loop-i.i c.loop-i.digest.masks (allowance_of c.loop-i.budget) c.loop-i.invariant all.count within (allowance_of c.add_rule_at.new.budget) (Ok false) c.add_rule_at.new.digest.masks tt
+          (rw c.if-not-branch.true at c.in_ok-add_rule_at.ensures.carried);
     }
 
 pub loop-i-preserved : goal.loop-i-preserved
 loop-i-preserved g c =
     let all = rules_of g.O.Width.bytes g.W.Width.bytes c.args.layout c.args.rules.now in
     walks_on (λ k. add_rule (g.A.AddSecond.adding c.args.adding.now) (all.entry k)) c.args.digest.now.masks (allowance_of c.args.budget.now)
-    c.loop-i.i c.loop-i.digest.masks (allowance_of c.loop-i.budget) c.loop-i.invariant (allowance_of c.add-rule-at.new.budget) c.add-rule-at.new.digest.masks
-    (rw c.if-not-branch.false at c.in-ok-add-rule-at.ensures.carried)
+    c.loop-i.i c.loop-i.digest.masks (allowance_of c.loop-i.budget) c.loop-i.invariant (allowance_of c.add_rule_at.new.budget) c.add_rule_at.new.digest.masks
+    (rw c.if-not-branch.false at c.in_ok-add_rule_at.ensures.carried)

@@ -11,10 +11,10 @@ returns g c =
     let first = c.replay.ensures in
     let second = c.replay-book.ensures in
     let between = left_all _ _ first.replied in
-    let x = λ (left : Allowance). sheet (g.O.Matching.meaning c.args.first-beside.now) (g.A.Matching.meaning c.args.first) (allowance_of c.args.budget.now) left c.args.first-lines.now c.replay.new.lines in
-    let y = λ (began : Allowance). sheet (g.Q.Matching.meaning c.args.second-beside.now) (g.B.Matching.meaning c.args.second) began (allowance_of c.replay-book.new.budget) c.args.second-lines.now c.replay-book.new.lines in
-    let one = subst (λ left. Replied (x left) (map outcome_of c.args.first-lines.now)) between first.replied in
-    let other = subst (λ began. Replied (y began) (map outcome_of c.args.second-lines.now)) between second.replied in
+    let x = λ (left : Allowance). sheet (g.O.Matching.meaning c.args.first_beside.now) (g.A.Matching.meaning c.args.first) (allowance_of c.args.budget.now) left c.args.first_lines.now c.replay.new.lines in
+    let y = λ (began : Allowance). sheet (g.Q.Matching.meaning c.args.second_beside.now) (g.B.Matching.meaning c.args.second) began (allowance_of c.replay-book.new.budget) c.args.second_lines.now c.replay-book.new.lines in
+    let one = subst (λ left. Replied (x left) (map outcome_of c.args.first_lines.now)) between first.replied in
+    let other = subst (λ began. Replied (y began) (map outcome_of c.args.second_lines.now)) between second.replied in
     record {
       same = (c.end-ended.ensures.bank ∙ first.same, second.same);
       calls = (first.calls, second.calls);

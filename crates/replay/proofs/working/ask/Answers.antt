@@ -17,14 +17,14 @@ pub returns-in-OpenWide : goal.returns-in-OpenWide
 returns-in-OpenWide g c =
     let aside = g.O.Matching.meaning c.args.beside.now in
     let is = ap (λ call. event aside call (length c.args.hits.now) (length c.args.words.now)) c.in-OpenWide.is in
-    let a = subst (Leaves _ _ _ _ _ _ _ _) (sym is) (opens_wide_leaves _ _ _ _ _ _ _ c.open-wide.result c.opened-answer-in-OpenWide.ensures.value _ _ c.open-wide.ensures.answer c.open-wide.ensures.left) in
+    let a = subst (Leaves _ _ _ _ _ _ _ _) (sym is) (opens_wide_leaves _ _ _ _ _ _ _ c.open_wide.result c.opened-answer-in-OpenWide.ensures.value _ _ c.open_wide.ensures.answer c.open_wide.ensures.left) in
     record { same = refl; does = a.does; answer = a.answers; hits = a.lists; words = a.fills }
 
 pub returns-in-Fill : goal.returns-in-Fill
 returns-in-Fill g c =
     let aside = g.O.Matching.meaning c.args.beside.now in
     let is = ap (λ call. event aside call (length c.args.hits.now) (length c.args.words.now)) c.in-Fill.is in
-    let e = c.fill-words.ensures in
+    let e = c.fill_words.ensures in
     let a = subst (Leaves _ _ _ _ _ _ _ _) (sym is)
-    (fills _ _ _ _ _ _ _ _ (class_table_of c.in-Fill.view.now).firsts c.fill-words.result c.done-answer.ensures.value e.answer e.left c.fill-words.auto.words e.buffer) in
+    (fills _ _ _ _ _ _ _ _ (class_table_of c.in-Fill.view.now).firsts c.fill_words.result c.done-answer.ensures.value e.answer e.left c.fill_words.auto.words e.buffer) in
     record { same = refl; does = a.does; answer = a.answers; hits = a.lists; words = a.fills }

@@ -8,8 +8,8 @@ pub returns : goal.returns
 returns g c =
     let e = c.ask-book.ensures in
     let line = c.args.line.now in
-    let p = c.deref-mut.ensures.value in
-    let q = c.deref-mut-2.ensures.value in
+    let p = c.deref_mut.ensures.value in
+    let q = c.deref_mut-2.ensures.value in
     let aside = g.O.Matching.meaning c.args.beside.now in
     let bank = g.B.Matching.meaning c.args.book.bank in
     let a = asks_at aside bank line.call _ _ _ _ _ _ _ _ _ _ _ p q (record { does = e.does; answers = e.answer; lists = e.hits; fills = e.words }) in
@@ -19,5 +19,5 @@ returns g c =
       same = e.same;
       does = a.does;
       call = refl;
-      came = came aside bank line.call _ _ _ _ _ _ _ (outcome_of line) _ _ _ _ a h w c.work-left-line.ensures.value c.bytes-left-line.ensures.value;
+      came = came aside bank line.call _ _ _ _ _ _ _ (outcome_of line) _ _ _ _ a h w c.work_left-line.ensures.value c.bytes_left-line.ensures.value;
     }

@@ -13,5 +13,5 @@ returns-in-Err c =
 
 pub returns : goal.returns
 returns c =
-    let h = c.in-default.ensures in
-    (h.0, h.1, stored _ _ _ _ h.2 (c.len-start.ensures ∙ c.args.glyphs.now.ok.0) (c.len.ensures ∙ c.push-glyphs.new.glyphs.ok.0))
+    let h = c.in_default.ensures in
+    (h.0, h.1, stored _ _ _ _ h.2 (c.len-start.ensures ∙ c.args.glyphs.now.ok.0) (c.len.ensures ∙ c.push_glyphs.new.glyphs.ok.0))

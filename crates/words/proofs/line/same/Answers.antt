@@ -1,7 +1,10 @@
-use Rattle.std.proofs.Common.{rules}
+use Rattle.std.proofs.Common.{eqb}
 use Rattle.std.proofs.lemmas.Slice.Eq.{bytes_eq-Decides, slice_eq-Decides}
 use Rattle.std.proofs.lemmas.Bool.Decides.{same_from_decides, Decides-eqb}
 use Rattle.words.proofs.line.same.Goals as goal
 
 pub returns : goal.returns
-returns c = same_from_decides _ _ (slice_eq-Decides Decides-eqb _ _ _ c.eq.ensures) (bytes_eq-Decides _ _)
+returns c =
+    same_from_decides _ _
+    (slice_eq-Decides {E = eqb} Decides-eqb c.args.a.now c.args.b.now c.eq.result c.eq.ensures)
+    (bytes_eq-Decides c.args.a.now c.args.b.now)

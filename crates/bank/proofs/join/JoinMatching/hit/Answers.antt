@@ -14,8 +14,8 @@ returns-then-k-n g c = record {
 
 pub returns : goal.returns
 returns g c = record {
-  value = c.renumber.ensures.value ∙ ap (renumbered c.args.k) c.hit_2.ensures.value
+  value = c.renumber.ensures.value ∙ ap (renumbered c.args.k) c.hit-2.ensures.value
       ∙ renumbered_hit (subtable (g.B.Matching.meaning c.args.self.now.second) (c.args.k - c.count-n.result)) (c.args.k - c.count-n.result) c.args.k c.args.run.now c.args.place
       ∙ ap (λ (s : Subtable). hit_at s c.args.k c.args.run.now c.args.place)
-      (from_second _ _ _ _ c.count-n.ensures.value c.if-k-n.false c.if-k-ge-MOST-SUBTABLES.false);
+      (from_second _ _ _ _ c.count-n.ensures.value c.if-k-n.false c.if-k-ge-MOST_SUBTABLES.false);
 }

@@ -1,5 +1,5 @@
 use Rattle.std.proofs.Common.{◌<◌, ◌≤◌, true, false, ltb, length, set, Err, sym, refl, ap, ◌∙◌, arith}
-use Rattle.std.proofs.lemmas.Bool.{cond_false, le-ltb, lt-ltb}
+use Rattle.std.proofs.lemmas.Bool.{cond-false, le-ltb, lt-ltb}
 use Rattle.digest.specs.Allowances.{allowance_of}
 use Rattle.opentype.specs.Meaning.{subtable}
 use Rattle.book.specs.Slots.{held}
@@ -12,9 +12,9 @@ returns-then-k-count g c =
     let past : length bank ≤ c.args.k = omega arith in
     let gone = le-ltb c.args.k (length bank) past in
     record {
-      answer = sym (cond_false (ltb c.args.k (length bank)) _ _ gone);
+      answer = sym (cond-false (ltb c.args.k (length bank)) _ _ gone);
       bank = refl;
-      slots = sym (cond_false (ltb c.args.k (length bank)) _ _ gone);
+      slots = sym (cond-false (ltb c.args.k (length bank)) _ _ gone);
       left = past_leaves bank c.args.k (allowance_of c.args.budget.now) past;
       kept = λ kept. kept;
     }
@@ -27,7 +27,7 @@ returns-in-Ok g c =
     let given = allowance_of c.args.budget.now in
     let below : k < length bank = omega arith in
     let there = lt-ltb k (length bank) below in
-    let can = sym c.if-not-can-filter.ensures.value in
+    let can = sym c.if-not-can_filter.ensures.value in
     let w = granted (subtable bank k) given can _ c.in-Ok.ensures.answer in
     let now-slots = c.happen.ensures.table ∙ ap (λ masks. set slots k (held masks)) w.1 ∙ sym (slots_by bank k given there can slots true w.0) in
     record {
@@ -46,7 +46,7 @@ returns-in-Err g c =
     let given = allowance_of c.args.budget.now in
     let below : k < length bank = omega arith in
     let there = lt-ltb k (length bank) below in
-    let can = sym c.if-not-can-filter.ensures.value in
+    let can = sym c.if-not-can_filter.ensures.value in
     let w = refused (subtable bank k) given can _ c.in-Err.ensures.answer in
     let now-slots = c.happen-in-Err.ensures.table ∙ sym (slots_by bank k given there can slots false w.0) in
     record {

@@ -6,7 +6,7 @@ use Rattle.opentype.specs.Meaning.{subtable}
 use Rattle.book.specs.Scans.{may_try}
 use Rattle.book.proofs.Looking.{Looked, done, looks, met, missed, skipped}
 use Rattle.book.proofs.book.Book.look.Goals as goal
-use Rattle.book.proofs.book.Book.look.Goals.{then-may-try+in-ok-hit+in-default, else-may-try}
+use Rattle.book.proofs.book.Book.look.Goals.{then-may_try+in_ok-hit+in_default, else-may_try}
 
 pub returns-in-Some : goal.returns-in-Some
 returns-in-Some g c =
@@ -17,10 +17,10 @@ returns-in-Some g c =
     let k = c.loop-k.k in
     let below : k < length bank = omega arith in
     let few = (g.B.Matching.lawful c.args.self.now.bank).few in
-    let here = answer_is (place_refused (length run) place) _ (hit_of (subtable bank k) k run place) (Some c.in-Some.hit) c.in-ok-hit.ensures.value c.in-Some.is in
-    let w = met (may_try slots run place) (λ (k : ℕ). hit_of (subtable bank k) k run place) k c.loop-k.tries c.loop-k.invariant (length bank) c.in-Some.hit (sym c.if-may-try.ensures.value) here below in
+    let here = answer_is (place_refused (length run) place) _ (hit_of (subtable bank k) k run place) (Some c.in-Some.hit) c.in_ok-hit.ensures.value c.in-Some.is in
+    let w = met (may_try slots run place) (λ (k : ℕ). hit_of (subtable bank k) k run place) k c.loop-k.tries c.loop-k.invariant (length bank) c.in-Some.hit (sym c.if-may_try.ensures.value) here below in
     record {
-      value = passed (place_refused (length run) place) _ _ _ c.in-ok-ask-place.ensures (looks _ _ _ _ w.0 w.1);
+      value = passed (place_refused (length run) place) _ _ _ c.in_ok-ask_place.ensures (looks _ _ _ _ w.0 w.1);
       few = omega (arith, few, c.loop-k.invariant.few);
     }
 
@@ -33,13 +33,13 @@ loop-k-preserved g c =
     let k = c.loop-k.k in
     let test = may_try slots run place in
     let hit = λ (k : ℕ). hit_of (subtable bank k) k run place in
-    elim c.if-may-try.branch [
-      | then-may-try+in-ok-hit+in-default w ↦
+    elim c.if-may_try.branch [
+      | then-may_try+in_ok-hit+in_default w ↦
           subst (Looked test hit (k + 1)) (sym w.tries-is)
-          (missed test hit k c.loop-k.tries c.loop-k.invariant (sym w.if-may-try.ensures.value)
-          (answer_is (place_refused (length run) place) _ (hit k) None w.in-ok-hit.ensures.value w.in-default.is))
-      | else-may-try w ↦
-          subst (Looked test hit (k + 1)) (sym w.tries-is) (skipped test hit k c.loop-k.tries c.loop-k.invariant (sym w.if-may-try.ensures.value))
+          (missed test hit k c.loop-k.tries c.loop-k.invariant (sym w.if-may_try.ensures.value)
+          (answer_is (place_refused (length run) place) _ (hit k) None w.in_ok-hit.ensures.value w.in_default.is))
+      | else-may_try w ↦
+          subst (Looked test hit (k + 1)) (sym w.tries-is) (skipped test hit k c.loop-k.tries c.loop-k.invariant (sym w.if-may_try.ensures.value))
     ]
 
 pub returns : goal.returns
@@ -52,6 +52,6 @@ returns g c =
     let few = (g.B.Matching.lawful c.args.self.now.bank).few in
     let w = done (may_try slots run place) (λ (k : ℕ). hit_of (subtable bank k) k run place) c.loop-k.k c.loop-k.tries c.loop-k.invariant (length bank) end in
     record {
-      value = passed (place_refused (length run) place) _ _ _ c.in-ok-ask-place.ensures (looks _ _ _ _ w.0 w.1);
+      value = passed (place_refused (length run) place) _ _ _ c.in_ok-ask_place.ensures (looks _ _ _ _ w.0 w.1);
       few = omega (arith, few, c.loop-k.invariant.few);
     }

@@ -18,16 +18,16 @@ pub returns-then-self : goal.returns-then-self
 unfolding offset value
 returns-then-self c =
     let v = c.args.self.now in
-    let there : classes_of v.input ≡ no_classes → ⊥ = λ e. true≢false (sym (c.is-missing.ensures.1 e) ∙ c.if-is-missing.false) in
+    let there : classes_of v.input ≡ no_classes → ⊥ = λ e. true≢false (sym (c.is_missing.ensures.1 e) ∙ c.if-is_missing.false) in
     present_walk (classes_of v.input) (class_table_of v) _ _ _ there
     (at_flags (classes_adding v.input v.lookahead) v.sets _ _ _ offset offset value v.wide v.sets.chained true v.sets.chained
-    c.if-self.true refl c.add-sets.ensures.walked)
+    c.if-self.true refl c.add_sets.ensures.walked)
 
 pub returns-else-self : goal.returns-else-self
 unfolding offset value
 returns-else-self c =
     let v = c.args.self.now in
-    let there : classes_of v.input ≡ no_classes → ⊥ = λ e. true≢false (sym (c.is-missing.ensures.1 e) ∙ c.if-is-missing.false) in
+    let there : classes_of v.input ≡ no_classes → ⊥ = λ e. true≢false (sym (c.is_missing.ensures.1 e) ∙ c.if-is_missing.false) in
     present_walk (classes_of v.input) (class_table_of v) _ _ _ there
     (at_flags (classes_adding v.input v.lookahead) v.sets _ _ _ offset offset value v.wide v.sets.chained false v.sets.chained
-    c.if-self.false refl c.add-sets-else-self.ensures.walked)
+    c.if-self.false refl c.add_sets-else-self.ensures.walked)

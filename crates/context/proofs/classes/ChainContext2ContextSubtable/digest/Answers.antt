@@ -9,6 +9,6 @@ use Rattle.context.proofs.classes.ChainContext2ContextSubtable.digest.Goals as g
 pub returns : goal.returns
 returns c =
     let t = class_table_of c.args.self.now in
-    let can : (classes_end t.input && classes_end t.lookahead) ≡ true = sym c.can-filter.ensures.value ∙ c.if-not-can-filter.false in
+    let can : (classes_end t.input && classes_end t.lookahead) ≡ true = sym c.can_filter.ensures.value ∙ c.if-not-can_filter.false in
     rw c.raise.ensures
     (filtered (matcher_of (class_context t)) (classes_end t.input && classes_end t.lookahead) (class_step t) _ _ _ can c.seconds.ensures (filters_sound (by_class t)))

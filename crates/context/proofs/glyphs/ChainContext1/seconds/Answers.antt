@@ -15,7 +15,7 @@ returns-in-true-true c =
     let v = c.args.self.now in
     let wide : v.wide ≡ true = search rules in
     let chained : v.sets.chained ≡ true = search rules in
-    at_flags glyph_adding v.sets _ _ _ width rule_offset width v.wide v.sets.chained true true wide chained c.add-sets.ensures.walked
+    at_flags glyph_adding v.sets _ _ _ width rule_offset width v.wide v.sets.chained true true wide chained c.add_sets.ensures.walked
 
 pub returns-in-true-false : goal.returns-in-true-false
 unfolding width rule_offset
@@ -23,11 +23,11 @@ returns-in-true-false c =
     let v = c.args.self.now in
     let wide : v.wide ≡ true = search rules in
     let chained : v.sets.chained ≡ false = search rules in
-    at_flags glyph_adding v.sets _ _ _ width rule_offset width v.wide v.sets.chained true false wide chained c.add-sets-in-true-false.ensures.walked
+    at_flags glyph_adding v.sets _ _ _ width rule_offset width v.wide v.sets.chained true false wide chained c.add_sets-in-true-false.ensures.walked
 
 pub returns-in-false-default : goal.returns-in-false-default
 unfolding width rule_offset
 returns-in-false-default c =
     let v = c.args.self.now in
     let wide : v.wide ≡ false = search rules in
-    at_flags glyph_adding v.sets _ _ _ width rule_offset width v.wide v.sets.chained false v.sets.chained wide refl c.add-sets-in-false-default.ensures.walked
+    at_flags glyph_adding v.sets _ _ _ width rule_offset width v.wide v.sets.chained false v.sets.chained wide refl c.add_sets-in-false-default.ensures.walked

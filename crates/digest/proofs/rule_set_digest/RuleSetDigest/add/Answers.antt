@@ -7,7 +7,7 @@ pub returns : goal.returns
 returns c =
     let w : ℕ = c.args.self.now.word in
     let v : ℕ = c.args.value % 64 in
-    let made : bit_or w c.bit-of.result ≡ bit_or w (2 ^ v) = cc in
+    let made : bit_or w c.bit_of.result ≡ bit_or w (2 ^ v) = cc in
     record {
       value = made;
       added = rw made (set_has w v);

@@ -7,6 +7,6 @@ pub returns : goal.returns
 returns c =
     let ms : List ℕ = c.args.self.now.masks in
     let g : ℕ = c.args.glyph in
-    let ns : List ℕ = c.with-glyph.result ∷ c.with-glyph-2.result ∷ c.with-glyph-3.result ∷ [] in
+    let ns : List ℕ = c.with_glyph.result ∷ c.with_glyph-2.result ∷ c.with_glyph-3.result ∷ [] in
     let made : ns ≡ add_glyph ms g = cc in
     record { value = made; added = glyph_added ns ms g made; kept = glyph_kept ns ms g made; bits = glyph_bits ns ms g made }

@@ -6,24 +6,24 @@ use Rattle.digest.proofs.After.{ok≢err, three_in_bits, span_added, span_kept, 
 use Rattle.digest.proofs.set_digest.SetDigest.add_range.Goals as goal
 
 -- the sums fit, so that no mask is refused
-pub returns-in-err-a : goal.returns-in-err-a
-returns-in-err-a c = absurd (ok≢err _ _ (sym (rw (always_fits 4 c.args.start c.args.end) at c.in-err-a.ensures.value)))
+pub returns-in_err-a : goal.returns-in_err-a
+returns-in_err-a c = absurd (ok≢err _ _ (sym (rw (always_fits 4 c.args.start c.args.end) at c.in_err-a.ensures.value)))
 
-pub returns-in-err-b : goal.returns-in-err-b
-returns-in-err-b c = absurd (ok≢err _ _ (sym (rw (always_fits 0 c.args.start c.args.end) at c.in-err-b.ensures.value)))
+pub returns-in_err-b : goal.returns-in_err-b
+returns-in_err-b c = absurd (ok≢err _ _ (sym (rw (always_fits 0 c.args.start c.args.end) at c.in_err-b.ensures.value)))
 
-pub returns-in-err-c : goal.returns-in-err-c
-returns-in-err-c c = absurd (ok≢err _ _ (sym (rw (always_fits 6 c.args.start c.args.end) at c.in-err-c.ensures.value)))
+pub returns-in_err-c : goal.returns-in_err-c
+returns-in_err-c c = absurd (ok≢err _ _ (sym (rw (always_fits 6 c.args.start c.args.end) at c.in_err-c.ensures.value)))
 
 pub returns : goal.returns
 returns c =
     let ms : List ℕ = c.args.self.now.masks in
     let s : ℕ = c.args.start in
     let e : ℕ = c.args.end in
-    let ns : List ℕ = c.in-ok-a.a ∷ c.in-ok-b.b ∷ c.in-ok-c.c ∷ [] in
-    let x = rw (always_fits 4 s e) at c.in-ok-a.ensures.value in
-    let y = rw (always_fits 0 s e) at c.in-ok-b.ensures.value in
-    let z = rw (always_fits 6 s e) at c.in-ok-c.ensures.value in
+    let ns : List ℕ = c.in_ok-a.a ∷ c.in_ok-b.b ∷ c.in_ok-c.c ∷ [] in
+    let x = rw (always_fits 4 s e) at c.in_ok-a.ensures.value in
+    let y = rw (always_fits 0 s e) at c.in_ok-b.ensures.value in
+    let z = rw (always_fits 6 s e) at c.in_ok-c.ensures.value in
     let made : ns ≡ add_span ms s e = cc in
     let fits : InBits ms = three_in_bits ms (omega arith) (omega arith) (omega arith) (omega arith) in
     record {

@@ -4,11 +4,11 @@ use Rattle.opentype.proofs.Matched.{first_met, first_more}
 use Rattle.rules.specs.Views.{found_of, matchers_of, rules_of}
 use Rattle.rules.proofs.sets.Rules.find.Goals as goal
 
-pub loop-i-preserved-in-default : goal.loop-i-preserved-in-default
-loop-i-preserved-in-default g c =
+pub loop-i-preserved-in_default : goal.loop-i-preserved-in_default
+loop-i-preserved-in_default g c =
     let told = rule_finds (matchers_of g.B.ValueMatch.means g.I.ValueMatch.means g.L.ValueMatch.means c.args.matchers.now) c.args.run.now c.args.place in
     let all = rules_of g.O.Width.bytes g.W.Width.bytes c.args.layout c.args.self.now in
-    first_more (λ k. told (all.entry k)) c.loop-i.i c.loop-i.invariant (sym (ap told c.in-default.ensures))
+    first_more (λ k. told (all.entry k)) c.loop-i.i c.loop-i.invariant (sym (ap told c.in_default.ensures))
 
 pub returns-in-Some-find : goal.returns-in-Some-find
 returns-in-Some-find g c =
@@ -22,4 +22,4 @@ loop-i-preserved g c =
     let told = rule_finds (matchers_of g.B.ValueMatch.means g.I.ValueMatch.means g.L.ValueMatch.means c.args.matchers.now) c.args.run.now c.args.place in
     let all = rules_of g.O.Width.bytes g.W.Width.bytes c.args.layout c.args.self.now in
     first_more (λ k. told (all.entry k)) c.loop-i.i c.loop-i.invariant
-    (sym (ap told c.in-Some.ensures) ∙ sym c.in-default-find.ensures)
+    (sym (ap told c.in-Some.ensures) ∙ sym c.in_default-find.ensures)

@@ -8,10 +8,10 @@ use Rattle.script.proofs.reader.Script.read.Goals as goal
 
 pub loop-rest-preserved : goal.loop-rest-preserved
 loop-rest-preserved c =
-    let h = c.in-ok-add.ensures c.loop-rest.invariant.0 in
-    let line = c.split-at.result.0.now in
-    let tail = c.after-end-rest.result.now in
-    let step = script_step c.loop-rest.rest.now line tail c.index-of.result c.index-of.ensures.value c.split-at.ensures.front (c.after-end-rest.ensures ∙ ap (drop 1) c.split-at.ensures.back) in (
+    let h = c.in_ok-add.ensures c.loop-rest.invariant.0 in
+    let line = c.split_at.result.0.now in
+    let tail = c.after_end-rest.result.now in
+    let step = script_step c.loop-rest.rest.now line tail c.index_of.result c.index_of.ensures.value c.split_at.ensures.front (c.after_end-rest.ensures ∙ ap (drop 1) c.split_at.ensures.back) in (
       h.0,
       ap (λ l. l ++ script_in tail) h.1 ∙ append_assoc (said_of c.loop-rest.script) (line_said line) (script_in tail)
           ∙ ap (λ l. said_of c.loop-rest.script ++ l) (sym step)

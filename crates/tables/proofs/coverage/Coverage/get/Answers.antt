@@ -11,5 +11,5 @@ returns-in-Glyphs c =
 
 pub returns-in-Ranges : goal.returns-in-Ranges
 returns-in-Ranges c =
-    let is : c.index-in-ranges.result ≡ index_in (coverage_of c.args.self.now) c.args.glyph = search rules in
+    let is : c.index_in_ranges.result ≡ index_in (coverage_of c.args.self.now) c.args.glyph = search rules in
     record { value = is; answers = coverage_answered (coverage_of c.args.self.now) c.args.glyph is }
