@@ -28,6 +28,7 @@ CHOSEN = {
 CHOSEN_IN = {
     'crates/opentype/proofs/Relating.antt': {'would-apply': 'would_apply_decides'},
     'crates/bank/proofs/join/JoinMatching/hit/Answers.antt': {'hit-2': 'hit-2'},
+    'crates/adding/proofs/class/add_entries/Answers.antt': {'digest-is': 'digest-is'},
 }
 
 DEFINED = re.compile(r"\s*(?:(?:abbrev|pub|unfoldable|data|record|ruleset)\s+)*([^\s:(){}.]+)\s*(?=[:({=])")

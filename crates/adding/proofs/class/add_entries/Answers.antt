@@ -14,6 +14,6 @@ loop-k-preserved c =
     (elim c.if-get-class.branch [
       | then-get-class w ↦ let t = eq-eqb (entry c.loop-k.k) c.args.class (sym c.get.ensures.value ∙ w.if-get-class.true) in
           let m : w.min.result ≡ min (c.args.start + c.loop-k.k) 65535 = omega arith in
-          rw t (ap (λ d. d.masks) w.digest_is ∙ w.add.ensures.value ∙ ap (add_glyph c.loop-k.digest.masks) m)
-      | else-get-class w ↦ let t = ne_eqb (entry c.loop-k.k) c.args.class (λ e. w.if-get-class.false (c.get.ensures.value ∙ e)) in rw t (ap (λ d. d.masks) w.digest_is)
+          rw t (ap (λ d. d.masks) w.digest-is ∙ w.add.ensures.value ∙ ap (add_glyph c.loop-k.digest.masks) m)
+      | else-get-class w ↦ let t = ne_eqb (entry c.loop-k.k) c.args.class (λ e. w.if-get-class.false (c.get.ensures.value ∙ e)) in rw t (ap (λ d. d.masks) w.digest-is)
     ])
