@@ -58,7 +58,7 @@ draws_of bank (filter_beside other k) = filter_draws (subtable other k)
 draws_of bank (draw ds) = ds
 draws_of bank (forget k) = []
 draws_of bank (state k) = []
-draws_of bank (would_apply glyphs bare) = []
+draws_of bank (would_apply glyphs flag) = []
 draws_of bank (scan run room) = []
 draws_of bank anew = []
 
@@ -103,7 +103,7 @@ slots_after bank (filter_beside other k) slots left = slots
 slots_after bank (draw ds) slots left = slots
 slots_after bank (forget k) slots left = forget_slots bank k slots
 slots_after bank (state k) slots left = slots
-slots_after bank (would_apply glyphs bare) slots left = slots
+slots_after bank (would_apply glyphs flag) slots left = slots
 slots_after bank (scan run room) slots left = slots
 slots_after bank anew slots left = replicate 32 bare
 

@@ -11,7 +11,7 @@ loop-i-init g c = (refl, played_none _ _ _ _ _ c.new-book.ensures.slots)
 
 pub loop-i-preserved : goal.loop-i-preserved
 loop-i-preserved g c =
-    let w = c.work_book.ensures in
+    let w = c.work-book.ensures in
     let same = c.loop-i.invariant.0 in (
       w.same ∙ same,
       played_more _ _ _ _ _ (ap g.B.Matching.meaning same) c.loop-i.i c.index-lines-i.result _ _ _ _ _ c.loop-i.lines (omega arith) c.loop-i.invariant.1 w.call w.does w.came,
