@@ -5,16 +5,15 @@ use context::classes::ChainContext2;
 use digest::set_digest::SetDigest;
 use opening::wide::WideParts;
 
-/// One call: on a book, on another bank beside it, or on the allowance alone. Bytes and glyphs are lent for `'a`, the view
-/// of a class subtable for `'view`.
+/// One call: on a book, on another bank beside it, or on the allowance alone.
 #[derive(Clone, Copy)]
-pub enum Call<'a, 'view> {
+pub enum Call<'a> {
     /// Opens a subtable by its header: its bytes, and whether it is chained.
     Open(&'a [u8], bool),
     /// Opens a subtable of a wide kind: its bytes, and where its parts lie.
     OpenWide(&'a [u8], WideParts),
     /// Fills the words of a class subtable's rule sets into the line's words.
-    Fill(&'view ChainContext2<'a>),
+    Fill(&'a ChainContext2<'a>),
     /// Filters a subtable of the book.
     Filter(u32),
     /// Filters a subtable of the bank beside the book.
@@ -52,8 +51,8 @@ pub enum Answer {
 
 /// One line: the call with the lists lent to it, its answer, and what is left of the allowance then.
 #[derive(Drop)]
-pub struct Line<'a, 'view> {
-    pub call: Call<'a, 'view>,
+pub struct Line<'a> {
+    pub call: Call<'a>,
     pub hits: Vec<Hit>,
     pub words: Vec<u64>,
     pub answer: Answer,

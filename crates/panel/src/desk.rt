@@ -158,7 +158,6 @@ impl<'a> Desk<'a> {
     /// Fills the rule-set words of a listed subtable into a buffer of so many words.
     fn words(&mut self, number: u32, count: u32) -> Result<Reply, AllocError> {
         match self.listed.get(number as usize) {
-            Some(Subtable::Classes(_)) if count > MOST_WORDS => Ok(Reply::TooLargeABuffer),
             Some(Subtable::Classes(view)) => {
                 let mut words = Vec::from_elem(self.heap, UNFILLED, count as usize)?;
                 match view.fill_words(&mut words, &mut self.budget) {

@@ -59,14 +59,14 @@ enum Step {
 
 /// The lines of a book as a list of calls.
 #[derive(Drop)]
-pub(crate) struct Sheet<'a, 'view> {
+pub(crate) struct Sheet<'view> {
     heap: Global,
     count: u32,
     steps: Vec<Step>,
-    lines: Vec<Line<'a, 'view>>,
+    lines: Vec<Line<'view>>,
 }
 
-impl<'a, 'view> Sheet<'a, 'view> {
+impl<'view> Sheet<'view> {
     /// No lines yet, of a book of so many subtables.
     pub(crate) fn new(heap: Global, count: u32) -> Self {
         Sheet {
@@ -78,9 +78,9 @@ impl<'a, 'view> Sheet<'a, 'view> {
     }
 
     /// Adds a line.
-    pub(crate) fn add(
+    pub(crate) fn add<'s: 'view, 'a: 'view>(
         &mut self,
-        script: &'a Script,
+        script: &'s Script,
         beside: &'view Lookup<'a>,
         said: Result<Command, Fault>,
     ) -> Result<(), AllocError> {
@@ -101,9 +101,9 @@ impl<'a, 'view> Sheet<'a, 'view> {
     }
 
     /// What a command on the book comes to.
-    fn on_book(
+    fn on_book<'s: 'view, 'a: 'view>(
         &mut self,
-        script: &'a Script,
+        script: &'s Script,
         beside: &'view Lookup<'a>,
         command: BookCommand,
     ) -> Result<Step, AllocError> {
@@ -125,20 +125,20 @@ impl<'a, 'view> Sheet<'a, 'view> {
     }
 
     /// A call that wants no lists.
-    fn call(&mut self, call: Call<'a, 'view>) -> Result<Step, AllocError> {
+    fn call(&mut self, call: Call<'view>) -> Result<Step, AllocError> {
         self.push(call, Vec::new(self.heap), Vec::new(self.heap))
     }
 
     /// A scan into a list of so many entries. No run has more hits than glyphs, so that entries past the most glyphs of a
     /// run are never written or told.
-    fn scan(&mut self, count: u32, run: &'a [u32]) -> Result<Step, AllocError> {
+    fn scan(&mut self, count: u32, run: &'view [u32]) -> Result<Step, AllocError> {
         let entries = (count as usize).min(MOST_GLYPHS);
         let hits = Vec::from_elem(self.heap, NO_HIT, entries)?;
         self.push(Call::Scan(run), hits, Vec::new(self.heap))
     }
 
     /// A fill of the words of a subtable beside the book, into a buffer of so many words.
-    fn fill(
+    fn fill<'a: 'view>(
         &mut self,
         beside: &'view Lookup<'a>,
         subtable: u32,
@@ -160,7 +160,7 @@ impl<'a, 'view> Sheet<'a, 'view> {
     /// Adds a call with the lists lent to it.
     fn push(
         &mut self,
-        call: Call<'a, 'view>,
+        call: Call<'view>,
         hits: Vec<Hit>,
         words: Vec<u64>,
     ) -> Result<Step, AllocError> {
@@ -218,7 +218,7 @@ impl<'a, 'view> Sheet<'a, 'view> {
 }
 
 /// What a line that was worked off is answered, on a book of so many subtables.
-fn told(line: Line<'_, '_>, count: u32) -> Reply {
+fn told(line: Line<'_>, count: u32) -> Reply {
     let Line {
         call,
         hits,
@@ -242,7 +242,7 @@ fn told(line: Line<'_, '_>, count: u32) -> Reply {
 }
 
 /// The answer of a call that was refused. A scan and a fill tell what they wrote.
-fn refused(call: Call<'_, '_>, refusal: Refusal, hits: Vec<Hit>, words: Vec<u64>) -> Reply {
+fn refused(call: Call<'_>, refusal: Refusal, hits: Vec<Hit>, words: Vec<u64>) -> Reply {
     match (call, refusal) {
         (Call::Scan(_), Refusal::ListFull) => Reply::ScanRefused {
             refusal,
@@ -254,7 +254,7 @@ fn refused(call: Call<'_, '_>, refusal: Refusal, hits: Vec<Hit>, words: Vec<u64>
 }
 
 /// The answer of a call that was granted and has no answer of its own.
-fn done(call: Call<'_, '_>, words: Vec<u64>, count: u32) -> Reply {
+fn done(call: Call<'_>, words: Vec<u64>, count: u32) -> Reply {
     match call {
         Call::Fill(view) => Reply::Words {
             count: view.sets.len(),

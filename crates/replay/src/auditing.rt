@@ -24,11 +24,11 @@ pub fn audit<A: Filtering, B: Filtering, O: Filtering, Q: Filtering>(
     one: A,
     one_beside: &O,
     one_budget: &mut Budget,
-    one_lines: &mut [Line<'_, '_>],
+    one_lines: &mut [Line<'_>],
     other: B,
     other_beside: &Q,
     other_budget: &mut Budget,
-    other_lines: &mut [Line<'_, '_>],
+    other_lines: &mut [Line<'_>],
 ) -> Audited<A, B>
     ensures same { (result.one.bank ≡ one) × (result.other.bank ≡ other) }
     ensures calls { (calls_of one_lines.new ≡ calls_of one_lines.old) × (calls_of other_lines.new ≡ calls_of other_lines.old) }

@@ -24,10 +24,10 @@ pub struct Turns<A, B> {
 pub fn in_turn<A: Filtering, B: Filtering, O: Filtering, Q: Filtering>(
     first: A,
     first_beside: &O,
-    first_lines: &mut [Line<'_, '_>],
+    first_lines: &mut [Line<'_>],
     second: B,
     second_beside: &Q,
-    second_lines: &mut [Line<'_, '_>],
+    second_lines: &mut [Line<'_>],
     budget: &mut Budget,
 ) -> Turns<A, B>
     ensures same { (result.ended ≡ first) × (result.book.bank ≡ second) }

@@ -88,7 +88,7 @@ fn ask<B: Filtering, O: Filtering>(
     book: Book<B>,
     beside: &O,
     budget: &mut Budget,
-    call: Call<'_, '_>,
+    call: Call<'_>,
     hits: &mut [Hit],
     words: &mut [u64],
 ) -> Asked<B>
@@ -148,7 +148,7 @@ fn work<B: Filtering, O: Filtering>(
     book: Book<B>,
     beside: &O,
     budget: &mut Budget,
-    line: &mut Line<'_, '_>,
+    line: &mut Line<'_>,
 ) -> Book<B>
     ensures same { result.bank ≡ book.bank }
     ensures does { Does (B.Matching.meaning book.bank) (event_of (O.Matching.meaning beside.now) line.old) book.slots.table result.slots.table (allowance_of budget.old) (allowance_of budget.new) }
@@ -177,7 +177,7 @@ pub fn replay<B: Filtering, O: Filtering>(
     bank: B,
     beside: &O,
     budget: &mut Budget,
-    lines: &mut [Line<'_, '_>],
+    lines: &mut [Line<'_>],
 ) -> Book<B>
     ensures same { result.bank ≡ bank }
     ensures calls { calls_of lines.new ≡ calls_of lines.old }

@@ -2,4 +2,4 @@ use Rattle.std.proofs.Common.{length}
 use Rattle.panel.proofs.work_off.Given as goal
 
 abbrev pub decreases-loop-rest : goal.decreases-loop-rest
-decreases-loop-rest g l = length l.rest.now
+decreases-loop-rest g l = length l.rest
