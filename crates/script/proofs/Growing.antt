@@ -2,7 +2,7 @@
 use Rattle.std.proofs.Common.{◌≡◌, ℕ, ◌-◌, ◌≤◌, true, false, eqb, List, [], ◌∷◌, ◌++◌, map, length, get_or, take, drop, Some, None, Ok, Err, vec_items, Option, Result, sym, refl, ap, ◌∙◌, subst, append_assoc, append-nil, arith, length-append, length-drop}
 use Rattle.std.proofs.ByRecursion.{All-push}
 use Rattle.std.proofs.lemmas.List.{take-append-le, drop-append-le, map_push}
-use Rattle.std.specs.List.{AllByRecursion as All}
+use Rattle.std.specs.List.{AllByRecursion}
 use Rattle.words.proofs.Cutting.{cut_step}
 use Rattle.words.specs.Bytes.{index_of}
 use Rattle.words.specs.Words.{words_in}
@@ -84,12 +84,12 @@ module _ (bs gs x y : List ℕ) where
   stands_grown command.Book h = tt
   stands_grown (command.OnBook c) h = book_stands_grown gs y c h
 
-  lines_grown : (ls : List (Result Command Fault)) → All (LineStands bs gs) ls → map (said (bs ++ x) (gs ++ y)) ls ≡ map (said bs gs) ls
+  lines_grown : (ls : List (Result Command Fault)) → AllByRecursion (LineStands bs gs) ls → map (said (bs ++ x) (gs ++ y)) ls ≡ map (said bs gs) ls
   lines_grown [] h = refl
   lines_grown (Ok c ∷ ls) h = let e = meant_grown c h.0 in let es = lines_grown ls h.1 in cc
   lines_grown (Err f ∷ ls) h = let es = lines_grown ls h.1 in cc
 
-  all_grown : (ls : List (Result Command Fault)) → All (LineStands bs gs) ls → All (LineStands (bs ++ x) (gs ++ y)) ls
+  all_grown : (ls : List (Result Command Fault)) → AllByRecursion (LineStands bs gs) ls → AllByRecursion (LineStands (bs ++ x) (gs ++ y)) ls
   all_grown [] h = tt
   all_grown (Ok c ∷ ls) h = (stands_grown c h.0, all_grown ls h.1)
   all_grown (Err f ∷ ls) h = (tt, all_grown ls h.1)
@@ -116,10 +116,10 @@ module _ (read : Result Said Fault) (before after : Script) where
       let y = h.0.glyphs.0 in
       let stands : LineStands (bs ++ x) (gs ++ y) r = subst (λ v. LineStands v (gs ++ y) r) h.0.bytes.1 (subst (λ v. LineStands (vec_items after.bytes) v r) h.0.glyphs.1 (line_stands r h)) in
       let says : said (bs ++ x) (gs ++ y) r ≡ read = subst (λ v. said v (gs ++ y) r ≡ read) h.0.bytes.1 (subst (λ v. said (vec_items after.bytes) v r ≡ read) h.0.glyphs.1 (line_says r h m)) in
-      let all : All (LineStands (bs ++ x) (gs ++ y)) (ls ++ r ∷ []) = All-push (LineStands (bs ++ x) (gs ++ y)) ls r (all_grown bs gs x y ls sound) stands in
+      let all : AllByRecursion (LineStands (bs ++ x) (gs ++ y)) (ls ++ r ∷ []) = All-push (LineStands (bs ++ x) (gs ++ y)) ls r (all_grown bs gs x y ls sound) stands in
       let eq : map (said (bs ++ x) (gs ++ y)) (ls ++ r ∷ []) ≡ map (said bs gs) ls ++ read ∷ [] = map_push (said (bs ++ x) (gs ++ y)) ls r ∙ ap (λ v. v ++ said (bs ++ x) (gs ++ y) r ∷ []) (lines_grown bs gs x y ls sound) ∙ ap (λ v. map (said bs gs) ls ++ v ∷ []) says in (
-        subst (λ v. All (LineStands v (vec_items end.glyphs)) (vec_items end.lines)) (sym b)
-            (subst (λ v. All (LineStands (bs ++ x) v) (vec_items end.lines)) (sym g) (subst (λ v. All (LineStands (bs ++ x) (gs ++ y)) v) (sym l) all)),
+        subst (λ v. AllByRecursion (LineStands v (vec_items end.glyphs)) (vec_items end.lines)) (sym b)
+            (subst (λ v. AllByRecursion (LineStands (bs ++ x) v) (vec_items end.lines)) (sym g) (subst (λ v. AllByRecursion (LineStands (bs ++ x) (gs ++ y)) v) (sym l) all)),
         subst (λ v. map (said v (vec_items end.glyphs)) (vec_items end.lines) ≡ map (said bs gs) ls ++ read ∷ []) (sym b)
             (subst (λ v. map (said (bs ++ x) v) (vec_items end.lines) ≡ map (said bs gs) ls ++ read ∷ []) (sym g) (subst (λ v. map (said (bs ++ x) (gs ++ y)) v ≡ map (said bs gs) ls ++ read ∷ []) (sym l) eq)),
       )

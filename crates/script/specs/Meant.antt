@@ -1,6 +1,6 @@
 -- What the commands of a script mean, by its buffers.
 use Rattle.std.specs.Prelude.{◌≡◌, ℕ, ◌-◌, ◌≤◌, List, ◌++◌, map, length, take, drop, Ok, Err, vec_items, Result, MatchResult, ◌≢◌}
-use Rattle.std.specs.List.{AllByRecursion as All}
+use Rattle.std.specs.List.{AllByRecursion}
 use Rattle.script.specs.Lines.{Said, coverage, class, digest_of, digest_span, allowance, left, opens, opens_wide, hit, applies, aside, masks, words, book, filter, forget, state, would_apply, scan, masks_beside, words_beside, anew, end}
 use Rattle.script.specs.declared.command.Command.{Command}
 use Rattle.script.specs.declared.command.Command.TheVariants as command
@@ -93,7 +93,7 @@ LineStands bytes glyphs (Err f) = Unit {0}
 
 -- every command of a script stands
 abbrev pub Sound : Script → Type 0
-Sound s = All (LineStands (vec_items s.bytes) (vec_items s.glyphs)) (vec_items s.lines)
+Sound s = AllByRecursion (LineStands (vec_items s.bytes) (vec_items s.glyphs)) (vec_items s.lines)
 
 -- ---- what a reading call leaves
 
