@@ -1,13 +1,12 @@
 -- From a walk that was carried out to what a filter answers.
 -- Assumes nothing.
-use Rattle.std.proofs.Common.{◌≡◌, ℕ, Bool, true, false, cond, List, IfOk, Some, None, Ok, Err, Option, Result, sym, refl, ap, ◌∙◌, subst, arith}
+use Rattle.std.proofs.Common.{◌≡◌, ℕ, Bool, true, false, cond, List, IfOk, Ok, Err, Result, sym, refl, ap, subst, arith}
 use Rattle.std.specs.Bool.{then_some}
-use Rattle.opentype.specs.Draws.{Allowance, fit, rest}
+use Rattle.opentype.specs.Draws.{Allowance, fit}
 use Rattle.opentype.specs.Filters.{Adding, add_sets}
 use Rattle.opentype.specs.Meaning.{Admits, Matcher, Sound, Subtable}
 use Rattle.opentype.specs.Subtables.{filter_of}
 use Rattle.opentype.specs.Walks.{Step, settled}
-use Rattle.answers.specs.declared.refusal.Refusal.{Refusal}
 use Rattle.answers.specs.declared.refusal.Refusal.TheVariants as refusal
 use Rattle.digest.specs.declared.budget.Exhausted.{Exhausted}
 use Rattle.digest.specs.declared.set_digest.SetDigest.{SetDigest}

@@ -1,6 +1,6 @@
 -- The walks of class and coverage subtables as their kinds say them.
 -- Assumes nothing.
-use Rattle.std.proofs.Common.{◌≡◌, ℕ, zero, suc, Bool, cond, List, Some, Result, sym, refl, ◌∙◌, subst}
+use Rattle.std.proofs.Common.{◌≡◌, ℕ, zero, suc, Bool, cond, List, Some, Result, sym, refl, subst}
 use Rattle.opentype.specs.Classes.{Classes, no_classes, class_array, class_ranges}
 use Rattle.opentype.specs.Draws.{Allowance}
 use Rattle.opentype.specs.Filters.{add_first, add_rule, add_sets}

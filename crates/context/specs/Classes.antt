@@ -1,6 +1,6 @@
 -- What a view of a class subtable stands for.
 -- Assumes nothing.
-use Rattle.std.specs.Prelude.{ℕ, Bool, cond}
+use Rattle.std.specs.Prelude.{ℕ, cond}
 use Rattle.opentype.specs.Headers.{class_table}
 use Rattle.opentype.specs.Matching.{ChainMatchers}
 use Rattle.opentype.specs.Subtables.{ByClass, in_class}

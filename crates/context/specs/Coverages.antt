@@ -1,6 +1,6 @@
 -- What a view of a coverage subtable stands for.
 -- Assumes nothing.
-use Rattle.std.specs.Prelude.{ℕ, Bool, cond, List}
+use Rattle.std.specs.Prelude.{ℕ, cond, List}
 use Rattle.opentype.specs.Coverages.{Coverage, covers}
 use Rattle.opentype.specs.Headers.{coverages_at}
 use Rattle.opentype.specs.Matching.{ChainMatchers}

@@ -1,6 +1,6 @@
 -- What a view of a glyph subtable stands for.
 -- Assumes nothing.
-use Rattle.std.specs.Prelude.{ℕ, Bool, cond}
+use Rattle.std.specs.Prelude.{ℕ, cond}
 use Rattle.opentype.specs.Matching.{ChainMatchers}
 use Rattle.opentype.specs.Subtables.{ByGlyph, same}
 use Rattle.rules.specs.Views.{sets_of}

@@ -1,17 +1,15 @@
 -- Filters draw work alone.
 -- Assumes nothing.
-use Rattle.std.proofs.Common.{◌≡◌, ℕ, zero, suc, ◌+◌, Bool, true, false, cond, eqb, List, [], ◌∷◌, ◌++◌, Some, None, Option, sym, refl, ap, ◌∙◌, arith}
-use Rattle.opentype.specs.Bytes.{Array}
+use Rattle.std.proofs.Common.{◌≡◌, ℕ, zero, suc, Bool, true, false, cond, eqb, List, [], ◌∷◌, ◌++◌, Some, None, Option, refl, arith}
 use Rattle.opentype.specs.Classes.{Classes, no_classes, class_array, class_ranges}
 use Rattle.opentype.specs.Coverages.{Coverage, no_coverage, glyph_list, glyph_ranges}
-use Rattle.opentype.specs.Draws.{Draw, byte_counter, share, total}
+use Rattle.opentype.specs.Draws.{Draw, byte_counter, total}
 use Rattle.opentype.specs.Filters.{Adding, add_range, add_listed, add_class, add_ahead, add_coverage, add_first, add_rule, add_set, add_sets}
 use Rattle.opentype.specs.Masks.{none}
-use Rattle.opentype.specs.Ranges.{Ranges}
 use Rattle.opentype.specs.Rules.{Rule, RuleSet, Sets, null, unreadable, rules}
-use Rattle.opentype.specs.Subtables.{Table, by_glyph, by_class, by_coverage, ByClass, glyph_adding, class_adding, coverage_adding, class_step_by}
+use Rattle.opentype.specs.Subtables.{by_glyph, by_class, by_coverage, ByClass, glyph_adding, class_adding, coverage_adding, class_step_by}
 use Rattle.opentype.specs.Theorems.{FiltersDrawWork}
-use Rattle.opentype.specs.Walks.{Step, onward, and_then, walk_below}
+use Rattle.opentype.specs.Walks.{Step, onward, walk_below}
 
 -- no bytes are drawn
 abbrev Spares : List Draw → Type 0

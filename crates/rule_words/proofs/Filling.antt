@@ -1,9 +1,9 @@
 -- Filling a buffer, set by set: the draws, how many words are stored, and the entries.
 -- Assumes nothing.
-use Rattle.std.proofs.Common.{◌≡◌, ℕ, zero, suc, ◌+◌, ◌*◌, ◌<◌, ◌≤◌, Bool, true, false, cond, ltb, ◌≢◌, List, [], ◌∷◌, length, get_or, set, Option, sym, refl, ap, ◌∙◌, subst, inl, inr, add-one, arith, get_or-set_other, get_or-set_same}
+use Rattle.std.proofs.Common.{◌≡◌, ℕ, zero, suc, ◌+◌, ◌*◌, ◌<◌, ◌≤◌, Bool, true, false, ◌≢◌, List, [], ◌∷◌, length, get_or, set, Option, sym, refl, ap, ◌∙◌, subst, inl, inr, add-one, arith, get_or-set_other, get_or-set_same}
 use Rattle.std.proofs.lemmas.Bool.{cases_lt, lt-ltb, le-ltb}
 use Rattle.opentype.specs.Bytes.{Array}
-use Rattle.opentype.specs.Draws.{Allowance, Drew, of_work, of_bytes, fit}
+use Rattle.opentype.specs.Draws.{Allowance, Drew, of_work, of_bytes}
 use Rattle.opentype.specs.Rules.{RuleSet}
 use Rattle.opentype.specs.Words.{draws_below, set_draws, word_of}
 use Rattle.opentype.proofs.Drawing.{drew_then, drew_stop}

@@ -1,6 +1,6 @@
 -- Filling a buffer with the words of rule sets.
 -- Assumes nothing.
-use Rattle.std.specs.Prelude.{ℕ, zero, suc, ◌*◌, cond, List, [], ◌∷◌, Ok, Err, Option, Result, nat_le, nat_lt, slice_index}
+use Rattle.std.specs.Prelude.{ℕ, zero, suc, ◌*◌, cond, List, ◌∷◌, Ok, Err, Option, Result, nat_le, nat_lt, slice_index}
 use Rattle.answers.specs.declared.refusal.Refusal.{Refusal}
 use Rattle.answers.specs.declared.refusal.Refusal.TheVariants.{ShortBuffer, Exhausted}
 use Rattle.opentype.specs.Bytes.{Array}

@@ -1,5 +1,5 @@
 -- Commands mean the same over buffers that have grown; a line more says one thing more.
-use Rattle.std.proofs.Common.{◌≡◌, ℕ, ◌-◌, ◌≤◌, true, false, eqb, List, [], ◌∷◌, ◌++◌, map, length, get_or, take, drop, Some, None, Ok, Err, vec_items, Option, Result, sym, refl, ap, ◌∙◌, subst, append_assoc, append-nil, arith, length-append, length-drop}
+use Rattle.std.proofs.Common.{◌≡◌, ℕ, ◌-◌, true, false, eqb, List, [], ◌∷◌, ◌++◌, map, length, get_or, take, drop, Ok, Err, vec_items, Result, sym, refl, ap, ◌∙◌, subst, arith, length-append, length-drop}
 use Rattle.std.proofs.ByRecursion.{All-push}
 use Rattle.std.proofs.lemmas.List.{take-append-le, drop-append-le, map_push}
 use Rattle.std.specs.List.{AllByRecursion}
@@ -10,7 +10,7 @@ use Rattle.words.specs.declared.fault.Fault.{Fault}
 use Rattle.words.specs.declared.fault.Fault.TheVariants.{NoMemory}
 use Rattle.words.specs.declared.span.Span.{Span}
 use Rattle.script.specs.Lines.{Said, coverage, class, digest_of, opens, opens_wide, hit, applies, would_apply, scan, said_by, words_said, line_said, script_in}
-use Rattle.script.specs.Meant.{cut, Inside, meant, meant_on_book, said, Stands, StandsOnBook, LineStands, Faulty, CommandRead, Sound, said_of}
+use Rattle.script.specs.Meant.{cut, Inside, meant, meant_on_book, said, Stands, StandsOnBook, LineStands, CommandRead, Sound, said_of}
 use Rattle.script.specs.Verbs.{verb_in}
 use Rattle.script.specs.declared.command.Command.{Command}
 use Rattle.script.specs.declared.command.Command.TheVariants as command

@@ -1,12 +1,11 @@
 -- What reading words one after the other says of what they mean.
-use Rattle.std.proofs.Common.{◌≡◌, ℕ, ◌+◌, ◌-◌, ◌^◌, ◌≤◌, List, [], ◌∷◌, ◌++◌, length, take, drop, Ok, Err, vec_items, vec_len, Result, Vec, sym, refl, ap, ◌∙◌, subst, append_assoc, append-nil, arith, length-append}
-use Rattle.std.proofs.lemmas.List.{take_all, take_at, drop_at}
+use Rattle.std.proofs.Common.{◌≡◌, ℕ, ◌-◌, ◌^◌, List, [], ◌∷◌, ◌++◌, length, take, drop, Ok, Err, vec_items, Result, Vec, sym, refl, ap, ◌∙◌, append_assoc, append-nil, arith, length-append}
+use Rattle.std.proofs.lemmas.List.{take_all, drop_at}
 use Rattle.std.specs.declared.alloc.Global.{Global}
 use Rattle.words.specs.Hex.{Appended}
-use Rattle.words.specs.declared.fault.Fault.TheVariants.{NoMemory}
 use Rattle.arguments.specs.Counts.{and_then}
 use Rattle.script.specs.Lines.{glyphs_of}
-use Rattle.script.specs.Meant.{cut, Inside, Read, Stored, Faulty}
+use Rattle.script.specs.Meant.{Read, Stored}
 use Rattle.words.specs.Numbers.{decimal_in}
 use Rattle.words.specs.declared.fault.Fault.{Fault}
 use Rattle.words.specs.declared.span.Span.{Span}

@@ -1,4 +1,4 @@
-use Rattle.std.proofs.Common.{◌≡◌, ℕ, ◌<◌, Option, unwrap_or, sym, ap, ◌∙◌, arith}
+use Rattle.std.proofs.Common.{ℕ, ◌<◌, Option, unwrap_or, sym, ap, ◌∙◌, arith}
 use Rattle.opentype.specs.Masks.{all_ones}
 use Rattle.opentype.specs.Rules.{first_input_in}
 use Rattle.rules.specs.Views.{parts_of}

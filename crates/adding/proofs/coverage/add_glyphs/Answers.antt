@@ -1,4 +1,4 @@
-use Rattle.std.proofs.Common.{◌≡◌, ℕ, List, ap, ◌∙◌}
+use Rattle.std.proofs.Common.{ℕ, List, ap, ◌∙◌}
 use Rattle.opentype.specs.Masks.{add_glyph}
 use Rattle.readers.specs.Views.{uints_of}
 use Rattle.adding.proofs.Turns.{adds_on}

@@ -1,4 +1,4 @@
-use Rattle.std.proofs.Common.{ℕ, ◌<◌, false, Ok, Err, arith}
+use Rattle.std.proofs.Common.{◌<◌, false, Ok, Err, arith}
 use Rattle.std.proofs.lemmas.Result.{err_from_is_err_and}
 use Rattle.opentype.specs.Filters.{add_set}
 use Rattle.digest.specs.Allowances.{allowance_of}

@@ -1,4 +1,4 @@
-use Rattle.std.proofs.Common.{ℕ, ◌+◌, ◌-◌, get_or, sym, ◌∙◌, arith}
+use Rattle.std.proofs.Common.{ℕ, ◌-◌, get_or, arith}
 use Rattle.opentype.proofs.Matched.{all_missed, all_more}
 use Rattle.readers.specs.Views.{uints_of}
 use Rattle.rules.proofs.sequence.matches_before.Goals as goal

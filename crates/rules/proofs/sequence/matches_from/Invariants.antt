@@ -1,4 +1,4 @@
-use Rattle.std.proofs.Common.{◌≡◌, ℕ, ◌+◌, ◌-◌, true, get_or}
+use Rattle.std.proofs.Common.{◌≡◌, ℕ, ◌+◌, true, get_or}
 use Rattle.opentype.specs.Matching.{all_below}
 use Rattle.readers.specs.Views.{uints_of}
 use Rattle.rules.proofs.sequence.matches_from.Given as goal

@@ -1,4 +1,4 @@
-use Rattle.std.proofs.Common.{◌+◌, ◌-◌, ◌/◌, sym, subst, arith, rules}
+use Rattle.std.proofs.Common.{◌+◌, ◌-◌, ◌/◌, arith, rules}
 use Rattle.opentype.proofs.Searching.{search_finds}
 use Rattle.tables.proofs.Searching.{left_start, left_up, left_down, left_here, left_none}
 use Rattle.tables.proofs.search.find.Goals as goal

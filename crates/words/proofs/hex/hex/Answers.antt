@@ -1,4 +1,3 @@
-use Rattle.std.proofs.Common.{arith}
 use Rattle.words.proofs.Pairing.{no_memory}
 use Rattle.words.proofs.hex.hex.Goals as goal
 

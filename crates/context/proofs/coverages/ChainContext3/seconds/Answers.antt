@@ -1,4 +1,4 @@
-use Rattle.std.proofs.Common.{◌≡◌, true, false}
+use Rattle.std.proofs.Common.{true, false}
 use Rattle.context.proofs.Walking.{covered_walk}
 use Rattle.context.proofs.coverages.ChainContext3.seconds.Goals as goal
 

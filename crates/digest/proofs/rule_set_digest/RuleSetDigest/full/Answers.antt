@@ -1,4 +1,4 @@
-use Rattle.std.proofs.Common.{ℕ, ◌%◌, refl, mod-lt, arith}
+use Rattle.std.proofs.Common.{◌%◌, refl, mod-lt, arith}
 use Rattle.opentype.proofs.Bits.{ones_has}
 use Rattle.digest.proofs.rule_set_digest.RuleSetDigest.full.Goals as goal
 

@@ -1,4 +1,4 @@
-use Rattle.std.proofs.Common.{◌≡◌, ℕ, ◌^◌, ◌<◌, List, [], ◌∷◌, length, get_or, sym, arith}
+use Rattle.std.proofs.Common.{◌≡◌, ℕ, List, [], ◌∷◌, sym, arith}
 use Rattle.opentype.specs.Spans.{add_span}
 use Rattle.opentype.specs.Theorems.{InBits}
 use Rattle.opentype.proofs.Sums.{always_fits, sums_fit}

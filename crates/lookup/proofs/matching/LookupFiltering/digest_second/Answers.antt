@@ -1,4 +1,4 @@
-use Rattle.std.proofs.Common.{◌≡◌, IfOk, ap, ◌∙◌, subst}
+use Rattle.std.proofs.Common.{IfOk, ap, ◌∙◌, subst}
 use Rattle.opentype.specs.Meaning.{Admits, Subtable}
 use Rattle.bank.specs.Answers.{digested, digest_leaves}
 use Rattle.digest.specs.Allowances.{allowance_of}

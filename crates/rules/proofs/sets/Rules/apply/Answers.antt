@@ -1,4 +1,4 @@
-use Rattle.std.proofs.Common.{ℕ, sym, ap, ◌∙◌, arith}
+use Rattle.std.proofs.Common.{sym, ap, ◌∙◌, arith}
 use Rattle.opentype.specs.Matching.{rule_applies}
 use Rattle.opentype.proofs.Matched.{any_met, any_more}
 use Rattle.rules.specs.Views.{rules_of}

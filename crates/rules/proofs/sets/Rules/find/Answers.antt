@@ -1,4 +1,4 @@
-use Rattle.std.proofs.Common.{ℕ, sym, ap, ◌∙◌, arith}
+use Rattle.std.proofs.Common.{sym, ap, ◌∙◌, arith}
 use Rattle.opentype.specs.Matching.{rule_finds}
 use Rattle.opentype.proofs.Matched.{first_met, first_more}
 use Rattle.rules.specs.Views.{found_of, matchers_of, rules_of}
