@@ -24,7 +24,7 @@ pub(crate) const UNFILLED: u64 = 0x5555_5555_5555_5555;
 pub(crate) const MOST_WORDS: u32 = 16_777_216;
 
 /// What the commands so far leave: the allowance, the subtables that are listed, and those that were put aside.
-pub(crate) struct Desk<'a> {
+pub struct Desk<'a> {
     heap: Global,
     budget: Budget,
     listed: Vec<Subtable<'a>>,
@@ -33,7 +33,7 @@ pub(crate) struct Desk<'a> {
 
 impl<'a> Desk<'a> {
     /// An allowance of nothing, and no subtables.
-    pub(crate) fn new(heap: Global) -> Self {
+    pub fn new(heap: Global) -> Self {
         Desk {
             heap,
             budget: Budget::new(0, 0),
@@ -49,16 +49,25 @@ impl<'a> Desk<'a> {
         said: Result<Command, Fault>,
     ) -> Result<Reply, AllocError> {
         match said {
-            Ok(command) => match at_any_time(script, command) {
-                Some(reply) => Ok(reply),
-                None => self.carry_out(script, command),
-            },
+            Ok(command) => self.carry_out(script, command),
             Err(fault) => Ok(Reply::Unread(fault)),
         }
     }
 
-    /// Carries out a command that wants no book.
-    fn carry_out(&mut self, script: &'a Script, command: Command) -> Result<Reply, AllocError> {
+    /// Carries one command out, while there is no book.
+    pub fn carry_out(&mut self, script: &'a Script, command: Command) -> Result<Reply, AllocError> {
+        match at_any_time(script, command) {
+            Some(reply) => Ok(reply),
+            None => self.without_a_book(script, command),
+        }
+    }
+
+    /// Carries out a command that works on the allowance or on the lists.
+    fn without_a_book(
+        &mut self,
+        script: &'a Script,
+        command: Command,
+    ) -> Result<Reply, AllocError> {
         let bytes = script.bytes.as_slice();
         let runs = script.glyphs.as_slice();
         match command {
@@ -208,7 +217,7 @@ impl<'a> Desk<'a> {
     }
 
     /// Lets everything go.
-    pub(crate) fn end(self) {
+    pub fn end(self) {
         let Desk {
             heap: _,
             budget,
