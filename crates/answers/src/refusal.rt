@@ -25,7 +25,7 @@ pub enum Refusal {
     ListFull = 9,
     /// A buffer for the words of rule sets is shorter than the sets.
     ShortBuffer = 10,
-    /// Two banks together have more than 32 subtables.
+    /// Two banks together, or the subtables that a bank is made of, are more than 32.
     TooManySubtables = 11,
 }
 

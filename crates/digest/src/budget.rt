@@ -1,5 +1,5 @@
 //! What opening subtables and making filters may cost: an allowance of work and of bytes, and the draws from it.
-ghost use Rattle.std.specs.Prelude.{◌≡◌, ◌-◌, leb, [], ◌∷◌, is_ok, if◌then◌else◌, nat_le};
+ghost use Rattle.std.specs.Prelude.{◌≡◌, ◌-◌, [], ◌∷◌, is_ok, if◌then◌else◌, nat_le};
 ghost use Rattle.answers.specs.declared.refusal.Refusal.TheVariants.{Exhausted};
 ghost use Rattle.opentype.specs.Draws.{Drew, of_bytes, of_work};
 ghost use Rattle.digest.specs.Allowances.{Drawn, allowance_of};
@@ -77,7 +77,7 @@ impl Budget {
     /// Takes an amount from a counter, unless it is above what is left of it.
     fn take(counter: &mut u64, amount: u64) -> Result<(), Exhausted>
         ensures answer { is_ok result ≡ nat_le amount counter.old }
-        ensures left { counter.new ≡ (if leb amount counter.old then counter.old - amount else counter.old) }
+        ensures left { counter.new ≡ (if nat_le amount counter.old then counter.old - amount else counter.old) }
     {
         if amount > *counter {
             return Err(Exhausted);

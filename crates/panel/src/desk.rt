@@ -42,13 +42,14 @@ impl<'a> Desk<'a> {
         }
     }
 
-    /// Answers a line while there is no book.
+    /// Answers a line while there is no book. One that would start a book comes here only where it cannot be started.
     pub(crate) fn answer(
         &mut self,
         script: &'a Script,
         said: Result<Command, Fault>,
     ) -> Result<Reply, AllocError> {
         match said {
+            Ok(Command::Book) => Ok(Reply::Refused(Refusal::TooManySubtables)),
             Ok(command) => self.carry_out(script, command),
             Err(fault) => Ok(Reply::Unread(fault)),
         }
@@ -94,7 +95,6 @@ impl<'a> Desk<'a> {
             Command::Aside => self.put_aside(),
             Command::Masks { subtable } => Ok(Reply::of(self.masks(subtable))),
             Command::Words { subtable, count } => self.words(subtable, count),
-            Command::Book => Ok(Reply::Refused(Refusal::TooManySubtables)),
             _ => Ok(Reply::NoBook),
         }
     }
