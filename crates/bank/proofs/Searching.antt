@@ -43,6 +43,10 @@ module _ (bank : List Subtable) (glyphs : List ℕ) (bare : Bool) where
 -- ---- the first hit
 
 module _ (place k : ℕ) where
+  pub told_none : (found : Option Found) → option_map (told place k) found ≡ None → found ≡ None
+  told_none None e = refl
+  told_none (Some f) e = absurd (true≢false (ap is_some e))
+
   pub told_some : (found : Option Found) (hit : Hit) → option_map (told place k) found ≡ Some hit → (f : Found) × (found ≡ Some f) × (hit ≡ told place k f)
   told_some None hit e = absurd (true≢false (sym (ap is_some e)))
   told_some (Some f) hit e = (f, refl, grind arith)
