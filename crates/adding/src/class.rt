@@ -7,9 +7,10 @@ ghost use Rattle.digest.specs.Allowances.{allowance_of};
 ghost use Rattle.readers.specs.Views.{uints_of};
 ghost use Rattle.tables.specs.Tables.{classes_of};
 ghost use Rattle.tables.specs.Views.{ranges_of};
-ghost use Rattle.adding.specs.Walked.{onwards, outcome};
+ghost use Rattle.adding.specs.Walked.{outcome};
 
-use digest::budget::{Budget, Exhausted};
+use crate::stop::Stop;
+use digest::budget::Budget;
 use digest::set_digest::SetDigest;
 use readers::uints::Uints;
 use readers::width::Two;
@@ -26,7 +27,7 @@ pub fn add_class(
     class: u32,
     digest: &mut SetDigest,
     budget: &mut Budget,
-) -> Result<bool, Exhausted>
+) -> Result<(), Stop>
     ensures carried { outcome (allowance_of budget.new) result digest.new.masks ≡ carried (add_class (classes_of table.now) class digest.old.masks) (allowance_of budget.old) }
 {
     if class == 0 {
@@ -34,22 +35,22 @@ pub fn add_class(
     } else {
         add_listed(table, class, digest, budget)?;
     }
-    Ok(true)
+    Ok(())
 }
 
-/// Adds the glyphs of a class of the lookahead. False where the table is missing: any glyph may then follow.
+/// Adds the glyphs of a class of the lookahead. Where the table is missing any glyph may follow.
 pub fn add_lookahead_class(
     table: &ClassDef,
     class: u32,
     digest: &mut SetDigest,
     budget: &mut Budget,
-) -> Result<bool, Exhausted>
+) -> Result<(), Stop>
     ensures carried { outcome (allowance_of budget.new) result digest.new.masks ≡ carried (add_ahead (classes_of table.now) class digest.old.masks) (allowance_of budget.old) }
 {
-    match table {
-        ClassDef::Missing => Ok(false),
-        _ => add_class(table, class, digest, budget),
+    if table.is_missing() {
+        return Err(Stop::AnyGlyph);
     }
+    add_class(table, class, digest, budget)
 }
 
 /// Adds the glyphs that a table lists in a class other than 0: an array draws its length, ranges draw their count, and
@@ -59,8 +60,8 @@ fn add_listed(
     class: u32,
     digest: &mut SetDigest,
     budget: &mut Budget,
-) -> Result<(), Exhausted>
-    ensures carried { outcome (allowance_of budget.new) (onwards result) digest.new.masks ≡ carried (add_listed (classes_of table.now) class digest.old.masks) (allowance_of budget.old) }
+) -> Result<(), Stop>
+    ensures carried { outcome (allowance_of budget.new) result digest.new.masks ≡ carried (add_listed (classes_of table.now) class digest.old.masks) (allowance_of budget.old) }
 {
     match table {
         ClassDef::Missing => Ok(()),
@@ -93,8 +94,8 @@ fn add_ranges(
     class: u32,
     digest: &mut SetDigest,
     budget: &mut Budget,
-) -> Result<(), Exhausted>
-    ensures carried { let all = ranges_of ranges.now in outcome (allowance_of budget.new) (onwards result) digest.new.masks ≡ carried (walk_below (add_range all class) all.count digest.old.masks) (allowance_of budget.old) }
+) -> Result<(), Stop>
+    ensures carried { let all = ranges_of ranges.now in outcome (allowance_of budget.new) result digest.new.masks ≡ carried (walk_below (add_range all class) all.count digest.old.masks) (allowance_of budget.old) }
 {
     for i in 0..ranges.len() {
         add_range(ranges, i, class, digest, budget)?;
@@ -110,8 +111,8 @@ fn add_range(
     class: u32,
     digest: &mut SetDigest,
     budget: &mut Budget,
-) -> Result<(), Exhausted>
-    ensures carried { outcome (allowance_of budget.new) (onwards result) digest.new.masks ≡ carried (add_range (ranges_of ranges.now) class index digest.old.masks) (allowance_of budget.old) }
+) -> Result<(), Stop>
+    ensures carried { outcome (allowance_of budget.new) result digest.new.masks ≡ carried (add_range (ranges_of ranges.now) class index digest.old.masks) (allowance_of budget.old) }
 {
     if ranges.value(index) == class {
         let (start, end) = ranges.bounds(index);

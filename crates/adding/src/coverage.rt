@@ -11,7 +11,8 @@ ghost use Rattle.tables.specs.Tables.{coverage_of};
 ghost use Rattle.tables.specs.Views.{ranges_of};
 ghost use Rattle.adding.specs.Walked.{outcome};
 
-use digest::budget::{Budget, Exhausted};
+use crate::stop::Stop;
+use digest::budget::Budget;
 use digest::set_digest::SetDigest;
 use readers::uints::Uints;
 use readers::width::Two;
@@ -19,26 +20,25 @@ use tables::coverage::Coverage;
 use tables::ranges::RangeRecords;
 use tables::search::Ranges;
 
-/// Adds what a coverage table covers, after a draw of its entry count. False where the table is missing: any glyph may
-/// then follow.
+/// Adds what a coverage table covers, after a draw of its entry count. Where the table is missing any glyph may follow.
 pub fn add_coverage(
     coverage: &Coverage,
     digest: &mut SetDigest,
     budget: &mut Budget,
-) -> Result<bool, Exhausted>
+) -> Result<(), Stop>
     ensures carried { outcome (allowance_of budget.new) result digest.new.masks ≡ carried (add_coverage (coverage_of coverage.now) digest.old.masks) (allowance_of budget.old) }
 {
     match coverage {
-        Coverage::Missing => Ok(false),
+        Coverage::Missing => Err(Stop::AnyGlyph),
         Coverage::Glyphs(glyphs) => {
             budget.work(u64::from(glyphs.len()))?;
             add_glyphs(glyphs, digest);
-            Ok(true)
+            Ok(())
         }
         Coverage::Ranges(ranges) => {
             budget.work(u64::from(ranges.len()))?;
             add_spans(ranges, digest);
-            Ok(true)
+            Ok(())
         }
     }
 }

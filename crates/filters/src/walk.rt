@@ -13,6 +13,7 @@ ghost use Rattle.filters.specs.Digested.{Walked, gathered, masks_in};
 
 use adding::class::{add_class, add_lookahead_class};
 use adding::coverage::add_coverage;
+use adding::stop::Stop;
 use digest::budget::{Budget, Exhausted};
 use digest::set_digest::SetDigest;
 use readers::width::Width;
@@ -22,17 +23,12 @@ use rules::sets::{RuleSet, Rules};
 use tables::class::ClassDef;
 use tables::coverage::Coverage;
 
-/// How the first value behind a rule's first glyph is added: as an input, or as a lookahead. False where any glyph may
-/// match the value, so that the walk stops with all ones.
+/// How the first value behind a rule's first glyph is added: as an input, or as a lookahead. Where any glyph may match
+/// the value, the walk stops with all ones.
 pub trait AddSecond {
     ghost adding: { Self → Adding ℕ };
 
-    fn add_input(
-        &self,
-        value: u32,
-        digest: &mut SetDigest,
-        budget: &mut Budget,
-    ) -> Result<bool, Exhausted>
+    fn add_input(&self, value: u32, digest: &mut SetDigest, budget: &mut Budget) -> Result<(), Stop>
         ensures { outcome (allowance_of budget.new) result digest.new.masks ≡ carried ((adding self.now).input value digest.old.masks) (allowance_of budget.old) };
 
     fn add_lookahead(
@@ -40,7 +36,7 @@ pub trait AddSecond {
         value: u32,
         digest: &mut SetDigest,
         budget: &mut Budget,
-    ) -> Result<bool, Exhausted>
+    ) -> Result<(), Stop>
         ensures { outcome (allowance_of budget.new) result digest.new.masks ≡ carried ((adding self.now).lookahead value digest.old.masks) (allowance_of budget.old) };
 }
 
@@ -56,9 +52,9 @@ impl AddSecond for SecondGlyph {
         value: u32,
         digest: &mut SetDigest,
         budget: &mut Budget,
-    ) -> Result<bool, Exhausted> {
+    ) -> Result<(), Stop> {
         digest.add(value);
-        Ok(true)
+        Ok(())
     }
 
     fn add_lookahead(
@@ -66,9 +62,8 @@ impl AddSecond for SecondGlyph {
         value: u32,
         digest: &mut SetDigest,
         budget: &mut Budget,
-    ) -> Result<bool, Exhausted> {
-        digest.add(value);
-        Ok(true)
+    ) -> Result<(), Stop> {
+        self.add_input(value, digest, budget)
     }
 }
 
@@ -87,7 +82,7 @@ impl AddSecond for SecondClass<'_> {
         value: u32,
         digest: &mut SetDigest,
         budget: &mut Budget,
-    ) -> Result<bool, Exhausted> {
+    ) -> Result<(), Stop> {
         add_class(&self.input, value, digest, budget)
     }
 
@@ -96,7 +91,7 @@ impl AddSecond for SecondClass<'_> {
         value: u32,
         digest: &mut SetDigest,
         budget: &mut Budget,
-    ) -> Result<bool, Exhausted> {
+    ) -> Result<(), Stop> {
         add_lookahead_class(&self.lookahead, value, digest, budget)
     }
 }
@@ -113,7 +108,7 @@ impl AddSecond for SecondCoverage<'_> {
         value: u32,
         digest: &mut SetDigest,
         budget: &mut Budget,
-    ) -> Result<bool, Exhausted> {
+    ) -> Result<(), Stop> {
         add_coverage(&Coverage::at(self.0, value as usize), digest, budget)
     }
 
@@ -122,8 +117,8 @@ impl AddSecond for SecondCoverage<'_> {
         value: u32,
         digest: &mut SetDigest,
         budget: &mut Budget,
-    ) -> Result<bool, Exhausted> {
-        add_coverage(&Coverage::at(self.0, value as usize), digest, budget)
+    ) -> Result<(), Stop> {
+        self.add_input(value, digest, budget)
     }
 }
 
@@ -156,13 +151,13 @@ pub fn add_rule_alone<W: Width, A: AddSecond>(
 }
 
 /// What a walk comes to: all ones where it stopped.
-fn settle(walked: Result<bool, Exhausted>, digest: SetDigest) -> Result<SetDigest, Exhausted>
+fn settle(walked: Result<(), Stop>, digest: SetDigest) -> Result<SetDigest, Exhausted>
     ensures masks { masks_in result ≡ gathered walked digest.masks }
 {
-    if walked? {
-        Ok(digest)
-    } else {
-        Ok(SetDigest::full())
+    match walked {
+        Ok(()) => Ok(digest),
+        Err(Stop::AnyGlyph) => Ok(SetDigest::full()),
+        Err(Stop::Exhausted) => Err(Exhausted),
     }
 }
 
@@ -172,15 +167,13 @@ fn add_each_set<S: Width, O: Width, W: Width, A: AddSecond>(
     adding: &A,
     digest: &mut SetDigest,
     budget: &mut Budget,
-) -> Result<bool, Exhausted>
+) -> Result<(), Stop>
     ensures carried { let all = sets_of S.Width.bytes O.Width.bytes W.Width.bytes sets.now in outcome (allowance_of budget.new) result digest.new.masks ≡ carried (walk (add_set (A.AddSecond.adding adding.now)) all digest.old.masks) (allowance_of budget.old) }
 {
     for i in 0..sets.len() {
-        if !add_set::<S, O, W, A>(sets, i, adding, digest, budget)? {
-            return Ok(false);
-        }
+        add_set::<S, O, W, A>(sets, i, adding, digest, budget)?;
     }
-    Ok(true)
+    Ok(())
 }
 
 /// Adds set `index`: draws its rule count, and adds each rule in turn. A null set is passed over, an unreadable one stops
@@ -191,12 +184,12 @@ fn add_set<S: Width, O: Width, W: Width, A: AddSecond>(
     adding: &A,
     digest: &mut SetDigest,
     budget: &mut Budget,
-) -> Result<bool, Exhausted>
+) -> Result<(), Stop>
     ensures carried { outcome (allowance_of budget.new) result digest.new.masks ≡ carried (add_set (A.AddSecond.adding adding.now) ((sets_of S.Width.bytes O.Width.bytes W.Width.bytes sets.now).entry index) digest.old.masks) (allowance_of budget.old) }
 {
     match sets.set::<S, O>(index) {
-        RuleSet::Null => Ok(true),
-        RuleSet::Unreadable => Ok(false),
+        RuleSet::Null => Ok(()),
+        RuleSet::Unreadable => Err(Stop::AnyGlyph),
         RuleSet::Rules(rules) => {
             budget.work(u64::from(rules.len()))?;
             add_rules::<O, W, A>(&rules, sets.layout(), adding, digest, budget)
@@ -211,15 +204,13 @@ fn add_rules<O: Width, W: Width, A: AddSecond>(
     adding: &A,
     digest: &mut SetDigest,
     budget: &mut Budget,
-) -> Result<bool, Exhausted>
+) -> Result<(), Stop>
     ensures carried { outcome (allowance_of budget.new) result digest.new.masks ≡ carried (walk (add_rule (A.AddSecond.adding adding.now)) (rules_of O.Width.bytes W.Width.bytes layout rules.now) digest.old.masks) (allowance_of budget.old) }
 {
     for i in 0..rules.len() {
-        if !add_rule_at::<O, W, A>(rules, i, layout, adding, digest, budget)? {
-            return Ok(false);
-        }
+        add_rule_at::<O, W, A>(rules, i, layout, adding, digest, budget)?;
     }
-    Ok(true)
+    Ok(())
 }
 
 /// Adds rule `index` of a set. An unreadable one stops the walk.
@@ -230,13 +221,11 @@ fn add_rule_at<O: Width, W: Width, A: AddSecond>(
     adding: &A,
     digest: &mut SetDigest,
     budget: &mut Budget,
-) -> Result<bool, Exhausted>
+) -> Result<(), Stop>
     ensures carried { outcome (allowance_of budget.new) result digest.new.masks ≡ carried (add_rule (A.AddSecond.adding adding.now) ((rules_of O.Width.bytes W.Width.bytes layout rules.now).entry index) digest.old.masks) (allowance_of budget.old) }
 {
-    match rules.parsed::<O, W>(index, layout) {
-        Some(rule) => add_rule::<W, A>(&rule, adding, digest, budget),
-        None => Ok(false),
-    }
+    let rule = rules.parsed::<O, W>(index, layout).ok_or(Stop::AnyGlyph)?;
+    add_rule::<W, A>(&rule, adding, digest, budget)
 }
 
 /// Adds a rule by its first input value, or else by its first lookahead value: any glyph may follow where it has neither.
@@ -245,7 +234,7 @@ fn add_rule<W: Width, A: AddSecond>(
     adding: &A,
     digest: &mut SetDigest,
     budget: &mut Budget,
-) -> Result<bool, Exhausted>
+) -> Result<(), Stop>
     ensures carried { outcome (allowance_of budget.new) result digest.new.masks ≡ carried (add_rule (A.AddSecond.adding adding.now) (Some (rule_of W.Width.bytes rule.now)) digest.old.masks) (allowance_of budget.old) }
 {
     if !rule.input.is_empty() {
@@ -253,6 +242,6 @@ fn add_rule<W: Width, A: AddSecond>(
     } else if !rule.lookahead.is_empty() {
         adding.add_lookahead(rule.lookahead.get::<W>(0), digest, budget)
     } else {
-        Ok(false)
+        Err(Stop::AnyGlyph)
     }
 }

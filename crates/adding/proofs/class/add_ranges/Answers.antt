@@ -1,4 +1,4 @@
-use Rattle.std.proofs.Common.{◌<◌, Err, arith}
+use Rattle.std.proofs.Common.{◌<◌, arith}
 use Rattle.std.proofs.lemmas.Result.{err_from_is_err_and}
 use Rattle.opentype.specs.Filters.{add_range}
 use Rattle.digest.specs.Allowances.{allowance_of}
@@ -13,9 +13,9 @@ returns-in_err-add_range c =
     let within : c.loop-i.i < all.count = omega arith in
     record {
       carried =
-          rw p.1
+          rw (p.1, p.2)
           (walks_out (add_range all c.args.class) c.args.digest.now.masks (allowance_of c.args.budget.now)
-          c.loop-i.i c.loop-i.digest.masks (allowance_of c.loop-i.budget) c.loop-i.invariant all.count within (allowance_of c.add_range.new.budget) (Err p.0) c.add_range.new.digest.masks tt
+          c.loop-i.i c.loop-i.digest.masks (allowance_of c.loop-i.budget) c.loop-i.invariant all.count within (allowance_of c.add_range.new.budget) c.in_err-add_range.field-0.0 c.add_range.new.digest.masks
           c.in_err-add_range.ensures.carried);
     }
 

@@ -1,4 +1,4 @@
-use Rattle.std.proofs.Common.{◌≡◌, true, Ok}
+use Rattle.std.proofs.Common.{◌≡◌, Ok}
 use Rattle.opentype.specs.Carried.{carried}
 use Rattle.opentype.specs.Filters.{add_range}
 use Rattle.opentype.specs.Walks.{walk_below}
@@ -10,5 +10,5 @@ use Rattle.adding.proofs.class.add_ranges.Given as goal
 -- the ranges before i are walked
 abbrev pub invariant-loop-i : goal.invariant-loop-i
 invariant-loop-i l =
-    outcome (allowance_of l.budget) (Ok true) l.digest.masks
+    outcome (allowance_of l.budget) (Ok tt) l.digest.masks
     ≡ carried (walk_below (add_range (ranges_of l.ranges) l.class) l.i l.initial.digest.masks) (allowance_of l.initial.budget)

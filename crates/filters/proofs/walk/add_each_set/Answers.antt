@@ -1,4 +1,4 @@
-use Rattle.std.proofs.Common.{◌<◌, false, Ok, Err, arith}
+use Rattle.std.proofs.Common.{◌<◌, arith}
 use Rattle.std.proofs.lemmas.Result.{err_from_is_err_and}
 use Rattle.opentype.specs.Filters.{add_set}
 use Rattle.digest.specs.Allowances.{allowance_of}
@@ -14,22 +14,10 @@ returns-in_err-add_set g c =
     let within : c.loop-i.i < all.count = omega arith in
     record {
       carried =
-          rw p.1
+          rw (p.1, p.2)
           (walks_out (λ k. add (all.entry k)) c.args.digest.now.masks (allowance_of c.args.budget.now)
-          c.loop-i.i c.loop-i.digest.masks (allowance_of c.loop-i.budget) c.loop-i.invariant all.count within (allowance_of c.add_set.new.budget) (Err p.0) c.add_set.new.digest.masks tt
+          c.loop-i.i c.loop-i.digest.masks (allowance_of c.loop-i.budget) c.loop-i.invariant all.count within (allowance_of c.add_set.new.budget) c.in_err-add_set.field-0.0 c.add_set.new.digest.masks
           c.in_err-add_set.ensures.carried);
-    }
-
-pub returns-then-not-branch : goal.returns-then-not-branch
-returns-then-not-branch g c =
-    let all = sets_of g.S.Width.bytes g.O.Width.bytes g.W.Width.bytes c.args.sets.now in
-    let add = add_set (g.A.AddSecond.adding c.args.adding.now) in
-    let within : c.loop-i.i < all.count = omega arith in
-    record {
-      carried =
-          walks_out (λ k. add (all.entry k)) c.args.digest.now.masks (allowance_of c.args.budget.now)
-          c.loop-i.i c.loop-i.digest.masks (allowance_of c.loop-i.budget) c.loop-i.invariant all.count within (allowance_of c.add_set.new.budget) (Ok false) c.add_set.new.digest.masks tt
-          (rw c.if-not-branch.true at c.in_ok-add_set.ensures.carried);
     }
 
 pub loop-i-preserved : goal.loop-i-preserved
@@ -37,4 +25,4 @@ loop-i-preserved g c =
     let all = sets_of g.S.Width.bytes g.O.Width.bytes g.W.Width.bytes c.args.sets.now in
     walks_on (λ k. add_set (g.A.AddSecond.adding c.args.adding.now) (all.entry k)) c.args.digest.now.masks (allowance_of c.args.budget.now)
     c.loop-i.i c.loop-i.digest.masks (allowance_of c.loop-i.budget) c.loop-i.invariant (allowance_of c.add_set.new.budget) c.add_set.new.digest.masks
-    (rw c.if-not-branch.false at c.in_ok-add_set.ensures.carried)
+    c.in_ok-add_set.ensures.carried

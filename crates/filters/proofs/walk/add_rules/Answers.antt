@@ -1,4 +1,4 @@
-use Rattle.std.proofs.Common.{◌<◌, false, Ok, Err, arith}
+use Rattle.std.proofs.Common.{◌<◌, arith}
 use Rattle.std.proofs.lemmas.Result.{err_from_is_err_and}
 use Rattle.opentype.specs.Filters.{add_rule}
 use Rattle.digest.specs.Allowances.{allowance_of}
@@ -13,21 +13,10 @@ returns-in_err-add_rule_at g c =
     let within : c.loop-i.i < all.count = omega arith in
     record {
       carried =
-          rw p.1
+          rw (p.1, p.2)
           (walks_out (λ k. add_rule (g.A.AddSecond.adding c.args.adding.now) (all.entry k)) c.args.digest.now.masks (allowance_of c.args.budget.now)
-          c.loop-i.i c.loop-i.digest.masks (allowance_of c.loop-i.budget) c.loop-i.invariant all.count within (allowance_of c.add_rule_at.new.budget) (Err p.0) c.add_rule_at.new.digest.masks tt
+          c.loop-i.i c.loop-i.digest.masks (allowance_of c.loop-i.budget) c.loop-i.invariant all.count within (allowance_of c.add_rule_at.new.budget) c.in_err-add_rule_at.field-0.0 c.add_rule_at.new.digest.masks
           c.in_err-add_rule_at.ensures.carried);
-    }
-
-pub returns-then-not-branch : goal.returns-then-not-branch
-returns-then-not-branch g c =
-    let all = rules_of g.O.Width.bytes g.W.Width.bytes c.args.layout c.args.rules.now in
-    let within : c.loop-i.i < all.count = omega arith in
-    record {
-      carried =
-          walks_out (λ k. add_rule (g.A.AddSecond.adding c.args.adding.now) (all.entry k)) c.args.digest.now.masks (allowance_of c.args.budget.now)
-          c.loop-i.i c.loop-i.digest.masks (allowance_of c.loop-i.budget) c.loop-i.invariant all.count within (allowance_of c.add_rule_at.new.budget) (Ok false) c.add_rule_at.new.digest.masks tt
-          (rw c.if-not-branch.true at c.in_ok-add_rule_at.ensures.carried);
     }
 
 pub loop-i-preserved : goal.loop-i-preserved
@@ -35,4 +24,4 @@ loop-i-preserved g c =
     let all = rules_of g.O.Width.bytes g.W.Width.bytes c.args.layout c.args.rules.now in
     walks_on (λ k. add_rule (g.A.AddSecond.adding c.args.adding.now) (all.entry k)) c.args.digest.now.masks (allowance_of c.args.budget.now)
     c.loop-i.i c.loop-i.digest.masks (allowance_of c.loop-i.budget) c.loop-i.invariant (allowance_of c.add_rule_at.new.budget) c.add_rule_at.new.digest.masks
-    (rw c.if-not-branch.false at c.in_ok-add_rule_at.ensures.carried)
+    c.in_ok-add_rule_at.ensures.carried
