@@ -1,11 +1,13 @@
 -- The turns of loops that walk, and of loops that only add.
 -- Assumes nothing.
-use Rattle.std.proofs.Common.{◌≡◌, ℕ, ◌+◌, ◌<◌, List, Ok, Err, sym, ap, ◌∙◌, subst, add-one}
+use Rattle.std.proofs.lemmas.Result.{err_from_is_err_and}
+use Rattle.std.proofs.Common.{IsErrAnd, ◌≡◌, ℕ, ◌+◌, ◌<◌, List, Ok, Err, Result, sym, ap, ◌∙◌, subst, add-one}
 use Rattle.opentype.specs.Carried.{Outcome, Ended, carried}
-use Rattle.opentype.specs.Draws.{Allowance}
 use Rattle.opentype.specs.Walks.{Step, walk_below, fold_below}
 use Rattle.opentype.proofs.Carrying.{turn, ends}
-use Rattle.adding.specs.Walked.{ending_of, outcome}
+use Rattle.digest.specs.Allowances.{allowance_of}
+use Rattle.adding.specs.Walked.{ending_of, outcome, CarriedOut}
+use Rattle.adding.specs.declared.gathering.Gathering.{Gathering}
 use Rattle.adding.specs.declared.stop.Stop.{Stop}
 use Rattle.adding.specs.declared.stop.Stop.TheVariants.{Exhausted, AnyGlyph}
 
@@ -15,18 +17,30 @@ ended : (stop : Stop) (m : List ℕ) → Ended (ending_of (Err stop) m)
 ended Exhausted m = tt
 ended AnyGlyph m = tt
 
-module _ (step : ℕ → List ℕ → Step) (start : List ℕ) (left : Allowance) (i : ℕ) (masks : List ℕ) (now : Allowance)
-    (inv : outcome now (Ok tt) masks ≡ carried (walk_below step i start) left) where
+module _ (step : ℕ → List ℕ → Step) (start here : Gathering) (i : ℕ) (before : CarriedOut (walk_below step i) start here (Ok tt)) where
+  turned : (next : Gathering) (r : Result (Unit {0}) Stop) → CarriedOut (step i) here next r
+      → outcome (allowance_of next.budget.now) r next.digest.masks ≡ carried (walk_below step (i + 1) start.digest.masks) (allowance_of start.budget.now)
+  turned next r now =
+      now.answer ∙ sym (turn step start.digest.masks (allowance_of start.budget.now) i here.digest.masks (allowance_of here.budget.now) before.answer)
+
   -- it goes on
-  pub walks_on : (after : Allowance) (m : List ℕ) → outcome after (Ok tt) m ≡ carried (step i masks) now
-      → outcome after (Ok tt) m ≡ carried (walk_below step (i + 1) start) left
-  walks_on after m e = e ∙ sym (turn step start left i masks now inv)
+  pub walks_on : (next : Gathering) → CarriedOut (step i) here next (Ok tt) → CarriedOut (walk_below step (i + 1)) start next (Ok tt)
+  walks_on next now = record { answer = turned next (Ok tt) now; same_allowance = now.same_allowance ∙ before.same_allowance }
 
   -- it stops, and with it the walk
-  pub walks_out : (n : ℕ) → i < n → (after : Allowance) (stop : Stop) (m : List ℕ)
-      → outcome after (Err stop) m ≡ carried (step i masks) now → outcome after (Err stop) m ≡ carried (walk_below step n start) left
-  walks_out n l after stop m e =
-      e ∙ sym (ends step start left i masks now n l inv (subst (λ (o : Outcome). Ended o.ending) e (ended stop m)))
+  pub walks_out : (n : ℕ) → i < n → (next : Gathering) (stop : Stop) (r : Result (Unit {0}) Stop) → CarriedOut (step i) here next (Err stop)
+      → IsErrAnd r (λ e. e ≡ stop) → CarriedOut (walk_below step n) start next r
+  walks_out n l next stop r now out =
+      let p = err_from_is_err_and r out in
+      rw (p.1, p.2)
+      (record {
+        answer =
+            now.answer
+            ∙ sym
+            (ends step start.digest.masks (allowance_of start.budget.now) i here.digest.masks (allowance_of here.budget.now) n l before.answer
+            (subst (λ (o : Outcome). Ended o.ending) now.answer (ended stop next.digest.masks)));
+        same_allowance = now.same_allowance ∙ before.same_allowance;
+      })
 
 -- ---- a turn of a loop that only adds
 

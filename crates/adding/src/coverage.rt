@@ -1,18 +1,16 @@
 //! Adding the glyphs of a coverage table to a digest.
 ghost use Rattle.std.specs.Prelude.{◌≡◌};
-ghost use Rattle.opentype.specs.Carried.{carried};
 ghost use Rattle.opentype.specs.Filters.{add_coverage};
 ghost use Rattle.opentype.specs.Masks.{add_glyph};
 ghost use Rattle.opentype.specs.Spans.{add_span};
 ghost use Rattle.opentype.specs.Walks.{fold_below};
-ghost use Rattle.digest.specs.Allowances.{allowance_of};
 ghost use Rattle.readers.specs.Views.{uints_of};
 ghost use Rattle.tables.specs.Tables.{coverage_of};
 ghost use Rattle.tables.specs.Views.{ranges_of};
-ghost use Rattle.adding.specs.Walked.{outcome};
+ghost use Rattle.adding.specs.Walked.{CarriedOut};
 
+use crate::gathering::Gathering;
 use crate::stop::Stop;
-use digest::budget::Budget;
 use digest::set_digest::SetDigest;
 use readers::uints::Uints;
 use readers::width::Two;
@@ -20,25 +18,23 @@ use tables::coverage::Coverage;
 use tables::ranges::RangeRecords;
 use tables::search::Ranges;
 
-/// Adds what a coverage table covers, after a draw of its entry count. Where the table is missing any glyph may follow.
-pub fn add_coverage(
-    coverage: &Coverage,
-    digest: &mut SetDigest,
-    budget: &mut Budget,
-) -> Result<(), Stop>
-    ensures carried { outcome (allowance_of budget.new) result digest.new.masks ≡ carried (add_coverage (coverage_of coverage.now) digest.old.masks) (allowance_of budget.old) }
-{
-    match coverage {
-        Coverage::Missing => Err(Stop::AnyGlyph),
-        Coverage::Glyphs(glyphs) => {
-            budget.work(u64::from(glyphs.len()))?;
-            add_glyphs(glyphs, digest);
-            Ok(())
-        }
-        Coverage::Ranges(ranges) => {
-            budget.work(u64::from(ranges.len()))?;
-            add_spans(ranges, digest);
-            Ok(())
+impl Gathering<'_> {
+    /// Adds what a coverage table covers, after a draw of its entry count. Where the table is missing any glyph may follow.
+    pub fn add_coverage(&mut self, coverage: &Coverage) -> Result<(), Stop>
+        ensures { CarriedOut (add_coverage (coverage_of coverage.now)) self.old self.new result }
+    {
+        match coverage {
+            Coverage::Missing => Err(Stop::AnyGlyph),
+            Coverage::Glyphs(glyphs) => {
+                self.budget.work(u64::from(glyphs.len()))?;
+                add_glyphs(glyphs, &mut self.digest);
+                Ok(())
+            }
+            Coverage::Ranges(ranges) => {
+                self.budget.work(u64::from(ranges.len()))?;
+                add_spans(ranges, &mut self.digest);
+                Ok(())
+            }
         }
     }
 }

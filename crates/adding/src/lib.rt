@@ -5,4 +5,5 @@
 
 pub mod class;
 pub mod coverage;
+pub mod gathering;
 pub mod stop;

@@ -1,15 +1,11 @@
-use Rattle.std.proofs.Common.{◌≡◌, ℕ, Ok}
-use Rattle.opentype.specs.Carried.{carried}
+use Rattle.std.proofs.Common.{ℕ, Ok}
 use Rattle.opentype.specs.Filters.{add_set}
 use Rattle.opentype.specs.Walks.{walk_below}
-use Rattle.digest.specs.Allowances.{allowance_of}
 use Rattle.rules.specs.Views.{sets_of}
-use Rattle.adding.specs.Walked.{outcome}
+use Rattle.adding.specs.Walked.{CarriedOut}
 use Rattle.filters.proofs.walk.add_each_set.Given as goal
 
 -- the sets before i are walked
 abbrev pub invariant-loop-i : goal.invariant-loop-i
 invariant-loop-i g l =
-    outcome (allowance_of l.budget) (Ok tt) l.digest.masks
-    ≡ carried (walk_below (λ (k : ℕ). add_set (g.A.AddSecond.adding l.adding) ((sets_of g.S.Width.bytes g.O.Width.bytes g.W.Width.bytes l.sets).entry k)) l.i l.initial.digest.masks)
-    (allowance_of l.initial.budget)
+    CarriedOut (walk_below (λ (k : ℕ). add_set (g.A.AddSecond.adding l.adding) ((sets_of g.S.Width.bytes g.O.Width.bytes g.W.Width.bytes l.sets).entry k)) l.i) l.initial.gathering l.gathering (Ok tt)
