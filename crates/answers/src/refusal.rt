@@ -2,6 +2,8 @@
 ghost use Rattle.std.specs.Prelude.{◌≡◌};
 ghost use Rattle.answers.specs.Numbers.{number_of};
 
+use std::fmt;
+
 /// Why a call is refused. The number stands for the case where answers are printed or stored.
 #[derive(Clone, Copy, PartialEq, Eq, Debug)]
 pub enum Refusal {
@@ -29,11 +31,18 @@ pub enum Refusal {
     TooManySubtables = 11,
 }
 
-impl Refusal {
+impl From<Refusal> for u8 {
+    ghost from_gives = { λ refusal number. number ≡ number_of refusal };
+
     /// The refusal's number.
-    pub fn number(self) -> u8
-        ensures value { result ≡ number_of self }
-    {
-        self as u8
+    fn from(refusal: Refusal) -> u8 {
+        refusal as u8
+    }
+}
+
+impl fmt::Display for Refusal {
+    fn fmt<W: fmt::Write>(&self, f: &mut fmt::Formatter<W>) -> fmt::Result {
+        let number = u8::from(*self);
+        write!(f, "refused {number}")
     }
 }

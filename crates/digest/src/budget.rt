@@ -7,7 +7,7 @@ ghost use Rattle.digest.specs.Allowances.{Drawn, allowance_of};
 use answers::Refusal;
 
 /// A draw was above what is left of its counter.
-#[derive(Clone, Copy)]
+#[derive(Clone, Copy, Debug, PartialEq, Eq)]
 pub struct Exhausted;
 
 impl From<Exhausted> for Refusal {
@@ -54,16 +54,14 @@ impl Budget {
     pub fn work_left(&self) -> u64
         ensures value { result ≡ self.now.work }
     {
-        let Budget { work, .. } = self;
-        *work
+        self.work
     }
 
     /// The bytes that are left.
     pub fn bytes_left(&self) -> u64
         ensures value { result ≡ self.now.bytes }
     {
-        let Budget { bytes, .. } = self;
-        *bytes
+        self.bytes
     }
 
     /// Ends the allowance, and tells the work and the bytes that are left of it.
@@ -79,10 +77,7 @@ impl Budget {
         ensures answer { is_ok result ≡ nat_le amount counter.old }
         ensures left { counter.new ≡ (if nat_le amount counter.old then counter.old - amount else counter.old) }
     {
-        if amount > *counter {
-            return Err(Exhausted);
-        }
-        *counter -= amount;
+        *counter = counter.checked_sub(amount).ok_or(Exhausted)?;
         Ok(())
     }
 }

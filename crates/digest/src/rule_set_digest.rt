@@ -7,7 +7,7 @@ use crate::masks::{bit_of, has_bit};
 
 /// A set of values by one word: a value has the bit of its remainder modulo 64. Values with one remainder are not told
 /// apart, so that `may_have` may answer yes for a value that was never added, and never answers no for one that was.
-#[derive(Clone, Copy)]
+#[derive(Clone, Copy, Debug, PartialEq, Eq)]
 pub struct RuleSetDigest {
     word: u64,
 }
@@ -57,7 +57,6 @@ impl RuleSetDigest {
     pub fn word(&self) -> u64
         ensures value { result ≡ self.now.word }
     {
-        let RuleSetDigest { word } = self;
-        *word
+        self.word
     }
 }

@@ -10,47 +10,53 @@ ghost use Rattle.opentype.specs.Sums.{mask_sum_fits, all_sums_fit};
 use crate::masks::{LAST_BIT, bit_of, has_bit};
 use answers::Refusal;
 
-/// By how many bits a glyph is shifted for each mask.
-const SHIFTS: [u32; 3] = [4, 0, 6];
-
-/// The mask of a shift, with a glyph.
-fn with_glyph(mask: u64, glyph: u32, shift: u32) -> u64
-    requires shift { shift < 32 }
-    ensures value { result ≡ with_glyph shift mask glyph }
-{
-    mask | bit_of(glyph >> shift)
+/// By how many bits glyphs are shifted for a mask: a glyph's bit in it is that of the shifted glyph.
+#[derive(Clone, Copy)]
+struct Shift {
+    by: u32,
+    ghost within: { by < 32 },
 }
 
-/// Whether the mask of a shift has the glyph's bit.
-fn has_glyph(mask: u64, glyph: u32, shift: u32) -> bool
-    requires shift { shift < 32 }
-    ensures value { result ≡ has_glyph shift mask glyph }
-{
-    has_bit(mask, glyph >> shift)
-}
+/// The shifts of the three masks.
+const SHIFTS: [Shift; 3] = [Shift { by: 4 }, Shift { by: 0 }, Shift { by: 6 }];
 
-/// The mask of a shift, with the glyphs from `start` to `end`. The bits from the first to the last go round after 64,
-/// and 63 or more of them are taken for all.
-fn with_span(mask: u64, start: u32, end: u32, shift: u32) -> Result<u64, Refusal>
-    requires shift { shift < 32 }
-    ensures value { result ≡ (if mask_sum_fits shift start end then Ok (with_span shift mask start end) else Err SpanSum) }
-{
-    let first = start >> shift;
-    let last = end >> shift;
-    if last < first || last - first >= LAST_BIT {
-        return Ok(u64::MAX);
+impl Shift {
+    /// The mask, with a glyph.
+    fn with_glyph(self, mask: u64, glyph: u32) -> u64
+        ensures value { result ≡ with_glyph self.by mask glyph }
+    {
+        mask | bit_of(glyph >> self.by)
     }
-    let low = bit_of(first);
-    let high = bit_of(last);
-    match high.checked_add(high.wrapping_sub(low)) {
-        Some(sum) => Ok(mask | (sum - u64::from(high < low))),
-        None => Err(Refusal::SpanSum),
+
+    /// Whether the mask has the glyph's bit.
+    fn has_glyph(self, mask: u64, glyph: u32) -> bool
+        ensures value { result ≡ has_glyph self.by mask glyph }
+    {
+        has_bit(mask, glyph >> self.by)
+    }
+
+    /// The mask, with the glyphs from `start` to `end`. The bits from the first to the last go round after 64, and 63 or
+    /// more of them are taken for all.
+    fn with_span(self, mask: u64, start: u32, end: u32) -> Result<u64, Refusal>
+        ensures value { result ≡ (if mask_sum_fits self.by start end then Ok (with_span self.by mask start end) else Err SpanSum) }
+    {
+        let first = start >> self.by;
+        let last = end >> self.by;
+        if last < first || last - first >= LAST_BIT {
+            return Ok(u64::MAX);
+        }
+        let low = bit_of(first);
+        let high = bit_of(last);
+        let sum = high
+            .checked_add(high.wrapping_sub(low))
+            .ok_or(Refusal::SpanSum)?;
+        Ok(mask | (sum - u64::from(high < low)))
     }
 }
 
 /// A set of glyphs by three masks of 64 bits. A glyph has one bit in each; other glyphs may have the same three, so that
 /// `may_have` may answer yes for a glyph that was never added, and never answers no for one that was.
-#[derive(Clone, Copy)]
+#[derive(Clone, Copy, Debug, PartialEq, Eq)]
 pub struct SetDigest {
     masks: [u64; 3],
 }
@@ -83,9 +89,9 @@ impl SetDigest {
     {
         let [a, b, c] = self.masks;
         self.masks = [
-            with_glyph(a, glyph, SHIFTS[0]),
-            with_glyph(b, glyph, SHIFTS[1]),
-            with_glyph(c, glyph, SHIFTS[2]),
+            SHIFTS[0].with_glyph(a, glyph),
+            SHIFTS[1].with_glyph(b, glyph),
+            SHIFTS[2].with_glyph(c, glyph),
         ];
     }
 
@@ -101,9 +107,9 @@ impl SetDigest {
         ensures bits { is_ok result ≡ true → BitsSpanned self.new.masks self.old.masks start end }
     {
         let [a, b, c] = self.masks;
-        let a = with_span(a, start, end, SHIFTS[0])?;
-        let b = with_span(b, start, end, SHIFTS[1])?;
-        let c = with_span(c, start, end, SHIFTS[2])?;
+        let a = SHIFTS[0].with_span(a, start, end)?;
+        let b = SHIFTS[1].with_span(b, start, end)?;
+        let c = SHIFTS[2].with_span(c, start, end)?;
         self.masks = [a, b, c];
         Ok(())
     }
@@ -124,16 +130,16 @@ impl SetDigest {
     pub fn may_have(&self, glyph: u32) -> bool
         ensures value { result ≡ admits self.now.masks glyph }
     {
-        has_glyph(self.masks[0], glyph, SHIFTS[0])
-            && has_glyph(self.masks[1], glyph, SHIFTS[1])
-            && has_glyph(self.masks[2], glyph, SHIFTS[2])
+        let [a, b, c] = self.masks;
+        SHIFTS[0].has_glyph(a, glyph)
+            && SHIFTS[1].has_glyph(b, glyph)
+            && SHIFTS[2].has_glyph(c, glyph)
     }
 
     /// The three masks.
     pub fn masks(&self) -> [u64; 3]
         ensures value { result ≡ self.now.masks }
     {
-        let SetDigest { masks } = self;
-        *masks
+        self.masks
     }
 }

@@ -1,7 +1,8 @@
 -- What views of numbers and of child tables stand for.
 -- Assumes nothing.
-use Rattle.std.specs.Prelude.{ℕ, ◌+◌, ◌-◌, ◌*◌, ◌&&◌, List, length, Option, nat_le, nat_lt}
+use Rattle.std.specs.Prelude.{ℕ, ◌+◌, ◌-◌, ◌*◌, ◌&&◌, List, map, length, Option, nat_le, nat_lt}
 use Rattle.std.specs.Bool.{then_some}
+use Rattle.std.specs.List.{range_with_len}
 use Rattle.opentype.specs.Bytes.{Array, number, numbers, each, child_at}
 use Rattle.readers.specs.declared.uints.Uints.{Uints}
 use Rattle.readers.specs.declared.uints.Offsets.{Offsets}
@@ -24,3 +25,11 @@ counted_at width xs place less =
 -- the child tables, by offsets of `width` bytes each
 abbrev pub children_of : (width : ℕ) → Offsets → Array (Option (List ℕ))
 children_of width o = each (child_at o.bytes.now) (uints_of width o.offsets)
+
+-- the entries of an array from `at` on, in order
+abbrev pub entries_from : {X : Type 0} → (at : ℕ) → Array X → List X
+entries_from at a = map a.entry (range_with_len at (a.count - at))
+
+-- all of them
+abbrev pub entries : {X : Type 0} → Array X → List X
+entries a = entries_from 0 a

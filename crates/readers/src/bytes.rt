@@ -1,5 +1,5 @@
 //! Numbers and child tables in a font's bytes.
-ghost use Rattle.std.specs.Prelude.{◌≡◌, ◌+◌, ◌^◌, ◌<◌, ◌≤◌, length, IfSome, slice_index};
+ghost use Rattle.std.specs.Prelude.{◌≡◌, ◌+◌, ◌^◌, ◌<◌, length, IfSome};
 ghost use Rattle.std.specs.Option.{option_map};
 ghost use Rattle.opentype.specs.Bytes.{number as number_at, number_in, tail_at, child_at};
 
@@ -7,68 +7,22 @@ use crate::width::Width;
 
 /// The big-endian number at `place`. A byte past the end is read as 0.
 pub fn number<W: Width>(bytes: &[u8], place: usize) -> u32
-    ensures value { result ≡ number_at W.Width.bytes bytes.now place }
-    ensures bound { result < 256 ^ W.Width.bytes }
+    ensures value { result ≡ number_at W.Width.BYTES bytes.now place }
+    ensures bound { result < 256 ^ W.Width.BYTES }
 {
-    if place < bytes.len() && bytes.len() - place >= W::width() {
-        inside::<W>(bytes, place)
-    } else {
-        cut_short::<W>(bytes, place)
-    }
-}
-
-/// The number at `place`, which lies inside.
-fn inside<W: Width>(bytes: &[u8], place: usize) -> u32
-    requires { place + W.Width.bytes ≤ length bytes.now }
-    ensures value { result ≡ number_at W.Width.bytes bytes.now place }
-    ensures bound { result < 256 ^ W.Width.bytes }
-{
-    let pair = bytes[place] as u32 * 256 + bytes[place + 1] as u32;
-    if W::width() == 2 {
-        pair
-    } else {
-        pair * 256 + bytes[place + 2] as u32
-    }
-}
-
-/// The number at `place`, whose last byte lies past the end.
-fn cut_short<W: Width>(bytes: &[u8], place: usize) -> u32
-    requires { length bytes.now < place + W.Width.bytes }
-    ensures value { result ≡ number_at W.Width.bytes bytes.now place }
-    ensures bound { result < 256 ^ W.Width.bytes }
-{
-    if place >= bytes.len() {
-        return 0;
-    }
-    let first = bytes[place] as u32;
-    if W::width() == 2 {
-        first * 256
-    } else {
-        (first * 256 + byte(bytes, place + 1)) * 256
-    }
-}
-
-/// The byte at `place`, or 0 past the end.
-fn byte(bytes: &[u8], place: usize) -> u32
-    ensures value { result ≡ slice_index bytes.now place }
-    ensures bound { result < 256 }
-{
-    if place < bytes.len() {
-        bytes[place] as u32
-    } else {
-        0
-    }
+    tail(bytes, place).map_or(0, |rest| W::first(rest))
 }
 
 /// The big-endian number at `place`, or none where it does not lie inside.
 pub fn read<W: Width>(bytes: &[u8], place: usize) -> Option<u32>
-    ensures value { result ≡ number_in W.Width.bytes bytes.now place }
-    ensures bound { IfSome result (λ v. v < 256 ^ W.Width.bytes) }
+    ensures value { result ≡ number_in W.Width.BYTES bytes.now place }
+    ensures bound { IfSome result (λ v. v < 256 ^ W.Width.BYTES) }
 {
-    if place > bytes.len() || bytes.len() - place < W::width() {
+    let rest = tail(bytes, place)?;
+    if rest.len() < W::BYTES {
         return None;
     }
-    Some(inside::<W>(bytes, place))
+    Some(W::first(rest))
 }
 
 /// The rest of the bytes from `offset` on: empty at the end, none past it.
@@ -76,10 +30,7 @@ pub fn tail<'a>(bytes: &'a [u8], offset: usize) -> Option<&'a [u8]>
     ensures value { option_map (λ x. x.now) result ≡ tail_at bytes.now offset }
     ensures within { IfSome result (λ part. length part.now + offset ≡ length bytes.now) }
 {
-    if offset > bytes.len() {
-        return None;
-    }
-    Some(&bytes[offset..])
+    bytes.get(offset..)
 }
 
 /// The child table at `offset`, where 0 is null.

@@ -1,10 +1,13 @@
 //! Arrays of numbers and of offsets to child tables, read in place.
 ghost use Rattle.std.specs.Prelude.{◌≡◌, ◌+◌, ◌*◌, ◌^◌, ◌<◌, ◌≤◌, length, IfSome, ◌==◌};
 ghost use Rattle.std.specs.Option.{option_map};
-ghost use Rattle.readers.specs.Views.{children_of, counted_at, parts_of, uints_of};
+ghost use Rattle.std.specs.Iterator.{YieldsFirst, item_count};
+ghost use Rattle.readers.specs.Views.{children_of, counted_at, entries, parts_of, uints_of};
+ghost use Rattle.readers.specs.Left.{left_of};
 
 use crate::bytes::{child, number, read};
 use crate::width::{Two, Width};
+use std::marker::PhantomData;
 
 /// The bytes of an array's count.
 const COUNT_BYTES: u32 = 2;
@@ -21,11 +24,11 @@ impl<'a> Uints<'a> {
     /// The numbers behind a count of two bytes at `place`, `less` fewer than it says: none unless the count and the
     /// numbers lie inside, and begin at a place of 32 bits.
     pub fn counted<W: Width>(bytes: &'a [u8], place: u32, less: u32) -> Option<Uints<'a>>
-        ensures value { option_map parts_of result ≡ counted_at W.Width.bytes bytes.now place less }
-        ensures inside { IfSome result (λ u. u.start + W.Width.bytes * u.count ≤ length bytes.now) }
+        ensures value { option_map parts_of result ≡ counted_at W.Width.BYTES bytes.now place less }
+        ensures inside { IfSome result (λ u. u.start + W.Width.BYTES * u.count ≤ length bytes.now) }
         ensures bound { IfSome result (λ u. u.count < 65536) }
     {
-        let (start, count) = counted_entries(bytes, place, less, W::width() as u16)?;
+        let (start, count) = counted_entries(bytes, place, less, W::BYTES as u16)?;
         Some(Uints {
             bytes,
             start,
@@ -35,13 +38,21 @@ impl<'a> Uints<'a> {
 
     /// Number `index`; past the count, what the bytes have there.
     pub fn get<W: Width>(&self, index: u32) -> u32
-        ensures value { result ≡ (uints_of W.Width.bytes self.now).entry index }
-        ensures bound { result < 256 ^ W.Width.bytes }
+        ensures value { result ≡ (uints_of W.Width.BYTES self.now).entry index }
+        ensures bound { result < 256 ^ W.Width.BYTES }
     {
-        number::<W>(
-            self.bytes,
-            self.start as usize + W::width() * index as usize,
-        )
+        number::<W>(self.bytes, self.start as usize + W::BYTES * index as usize)
+    }
+
+    /// The numbers, in order.
+    pub fn iter<W: Width>(&self) -> Numbers<'a, W>
+        ensures { left_of W.Width.BYTES result ≡ entries (uints_of W.Width.BYTES self.now) }
+    {
+        Numbers {
+            uints: *self,
+            at: 0,
+            width: PhantomData,
+        }
     }
 
     /// How many numbers there are.
@@ -56,6 +67,31 @@ impl<'a> Uints<'a> {
         ensures { result ≡ (self.now.count == 0) }
     {
         self.len() == 0
+    }
+}
+
+/// The numbers of a view from one on, in order.
+#[derive(Drop)]
+pub struct Numbers<'a, W> {
+    uints: Uints<'a>,
+    at: u32,
+    width: PhantomData<W>,
+}
+
+impl<'a, W: Width> Iterator for Numbers<'a, W> {
+    type Item = u32;
+
+    ghost next_gives = { YieldsFirst (left_of W.Width.BYTES) };
+
+    ghost remaining = { item_count (left_of W.Width.BYTES) };
+
+    fn next(&mut self) -> Option<u32> {
+        if self.at >= self.uints.count {
+            return None;
+        }
+        let number = self.uints.get::<W>(self.at);
+        self.at += 1;
+        Some(number)
     }
 }
 
@@ -83,8 +119,8 @@ pub struct Offsets<'a> {
 impl<'a> Offsets<'a> {
     /// The child table at offset `index`: none where it is null or passes the end.
     pub fn get<W: Width>(&self, index: u32) -> Option<&'a [u8]>
-        ensures value { option_map (λ x. x.now) result ≡ (children_of W.Width.bytes self.now).entry index }
-        ensures within { IfSome result (λ part. length part.now + (uints_of W.Width.bytes self.now.offsets).entry index ≡ length self.now.bytes.now) }
+        ensures value { option_map (λ x. x.now) result ≡ (children_of W.Width.BYTES self.now).entry index }
+        ensures within { IfSome result (λ part. length part.now + (uints_of W.Width.BYTES self.now.offsets).entry index ≡ length self.now.bytes.now) }
     {
         child(self.bytes, self.offsets.get::<W>(index) as usize)
     }

@@ -42,17 +42,17 @@ impl<'a> ClassDef<'a> {
         ensures value { classes_of result ≡ classes_in (Some bytes.now) }
     {
         match number::<Two>(bytes, 0) {
-            ARRAY_FORMAT => match Uints::counted::<Two>(bytes, CLASS_COUNT_PLACE, 0) {
-                Some(classes) => ClassDef::Array {
+            ARRAY_FORMAT => Uints::counted::<Two>(bytes, CLASS_COUNT_PLACE, 0).map_or(
+                ClassDef::Missing,
+                |classes| ClassDef::Array {
                     start: number::<Two>(bytes, START_PLACE) as u16,
                     classes,
                 },
-                None => ClassDef::Missing,
-            },
-            RANGE_FORMAT => match RangeRecords::counted(bytes, RANGE_COUNT_PLACE) {
-                Some(ranges) => ClassDef::Ranges(ranges),
-                None => ClassDef::Missing,
-            },
+            ),
+            RANGE_FORMAT => RangeRecords::counted(bytes, RANGE_COUNT_PLACE).map_or(
+                ClassDef::Missing,
+                |ranges| ClassDef::Ranges(ranges),
+            ),
             _ => ClassDef::Missing,
         }
     }
@@ -61,10 +61,7 @@ impl<'a> ClassDef<'a> {
     pub fn at(bytes: &'a [u8], offset: usize) -> ClassDef<'a>
         ensures value { classes_of result ≡ classes_in (child_at bytes.now offset) }
     {
-        match child(bytes, offset) {
-            Some(table) => ClassDef::new(table),
-            None => ClassDef::Missing,
-        }
+        child(bytes, offset).map_or(ClassDef::Missing, |table| ClassDef::new(table))
     }
 
     /// The class of `glyph`. In a table in order it is the one that OpenType says.
@@ -75,13 +72,10 @@ impl<'a> ClassDef<'a> {
     {
         match self {
             ClassDef::Missing => 0,
-            ClassDef::Array { start, classes } => {
-                let start = *start as u32;
-                if glyph < start || glyph - start >= classes.count {
-                    return 0;
-                }
-                classes.get::<Two>(glyph - start)
-            }
+            ClassDef::Array { start, classes } => match glyph.checked_sub(u32::from(*start)) {
+                Some(index) if index < classes.count => classes.get::<Two>(index),
+                _ => 0,
+            },
             ClassDef::Ranges(ranges) => match find(ranges, glyph) {
                 Some(index) => ranges.value(index),
                 None => 0,

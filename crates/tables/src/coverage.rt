@@ -41,14 +41,14 @@ impl<'a> Coverage<'a> {
         ensures value { coverage_of result ≡ coverage_in (Some bytes.now) }
     {
         match number::<Two>(bytes, 0) {
-            GLYPH_FORMAT => match Uints::counted::<Two>(bytes, COUNT_PLACE, 0) {
-                Some(glyphs) => Coverage::Glyphs(glyphs),
-                None => Coverage::Missing,
-            },
-            RANGE_FORMAT => match RangeRecords::counted(bytes, COUNT_PLACE) {
-                Some(ranges) => Coverage::Ranges(ranges),
-                None => Coverage::Missing,
-            },
+            GLYPH_FORMAT => Uints::counted::<Two>(bytes, COUNT_PLACE, 0).map_or(
+                Coverage::Missing,
+                |glyphs| Coverage::Glyphs(glyphs),
+            ),
+            RANGE_FORMAT => RangeRecords::counted(bytes, COUNT_PLACE).map_or(
+                Coverage::Missing,
+                |ranges| Coverage::Ranges(ranges),
+            ),
             _ => Coverage::Missing,
         }
     }
@@ -57,10 +57,7 @@ impl<'a> Coverage<'a> {
     pub fn at(bytes: &'a [u8], offset: usize) -> Coverage<'a>
         ensures value { coverage_of result ≡ coverage_in (child_at bytes.now offset) }
     {
-        match child(bytes, offset) {
-            Some(table) => Coverage::new(table),
-            None => Coverage::Missing,
-        }
+        child(bytes, offset).map_or(Coverage::Missing, |table| Coverage::new(table))
     }
 
     /// The coverage index of `glyph`, if it is covered. In a table in order it is the one that OpenType says.
@@ -94,11 +91,10 @@ impl<'a> Coverage<'a> {
 fn index_in_ranges(ranges: &RangeRecords, glyph: u32) -> Option<u32>
     ensures { let s = ranges_of ranges.now in result ≡ index_by s glyph (range_of s glyph) }
 {
-    let index = find(ranges, glyph)?;
-    let (start, _) = ranges.bounds(index);
-    let first = ranges.value(index);
-    if glyph - start > LAST_INDEX - first {
+    let range = ranges.get(find(ranges, glyph)?);
+    let further = glyph - range.start;
+    if further > LAST_INDEX - range.value {
         return None;
     }
-    Some(first + (glyph - start))
+    Some(range.value + further)
 }

@@ -2,7 +2,9 @@
 ghost use Rattle.std.specs.Prelude.{◌≡◌, ◌+◌, ◌*◌, ◌^◌, ◌<◌, IfSome};
 ghost use Rattle.std.specs.Option.{option_map};
 ghost use Rattle.readers.specs.Views.{counted_at, uints_of};
+ghost use Rattle.std.specs.Iterator.{YieldsFirst, item_count};
 ghost use Rattle.tables.specs.Views.{ranges_of, record_parts_of};
+ghost use Rattle.tables.specs.Records.{left_of, record_at, records_from};
 
 use crate::search::Ranges;
 use readers::bytes::number;
@@ -17,6 +19,14 @@ const END_PLACE: usize = 2;
 
 /// Where the number stands in a record.
 const VALUE_PLACE: usize = 4;
+
+/// A record: its first and its last glyph, and its number.
+#[derive(Clone, Copy, Debug, PartialEq, Eq)]
+pub struct RangeRecord {
+    pub start: u32,
+    pub end: u32,
+    pub value: u32,
+}
 
 /// Records of a start, an end and a number, one after another from the place `start` on. The number is the first index
 /// in a coverage table, the class in a class table.
@@ -42,12 +52,35 @@ impl<'a> RangeRecords<'a> {
         })
     }
 
+    /// Record `index`; past the count, what the bytes have there.
+    pub fn get(&self, index: u32) -> RangeRecord
+        ensures value { result ≡ record_at (ranges_of self.now) index }
+        ensures bound { result.value < 65536 }
+    {
+        let place = self.place(index);
+        RangeRecord {
+            start: number::<Two>(self.bytes, place),
+            end: number::<Two>(self.bytes, place + END_PLACE),
+            value: number::<Two>(self.bytes, place + VALUE_PLACE),
+        }
+    }
+
     /// The number of record `index`.
     pub fn value(&self, index: u32) -> u32
         ensures value { result ≡ (ranges_of self.now).value index }
         ensures bound { result < 65536 }
     {
-        number::<Two>(self.bytes, self.place(index) + VALUE_PLACE)
+        self.get(index).value
+    }
+
+    /// The records, in order.
+    pub fn iter(&self) -> Records<'a>
+        ensures { left_of result ≡ records_from 0 (ranges_of self.now) }
+    {
+        Records {
+            ranges: *self,
+            at: 0,
+        }
     }
 
     /// Where record `index` begins.
@@ -71,11 +104,32 @@ impl Ranges for RangeRecords<'_> {
     }
 
     fn bounds(&self, index: u32) -> (u32, u32) {
-        let place = self.place(index);
-        (
-            number::<Two>(self.bytes, place),
-            number::<Two>(self.bytes, place + END_PLACE),
-        )
+        let record = self.get(index);
+        (record.start, record.end)
+    }
+}
+
+/// The records of a view from one on, in order.
+#[derive(Drop)]
+pub struct Records<'a> {
+    ranges: RangeRecords<'a>,
+    at: u32,
+}
+
+impl<'a> Iterator for Records<'a> {
+    type Item = RangeRecord;
+
+    ghost next_gives = { YieldsFirst left_of };
+
+    ghost remaining = { item_count left_of };
+
+    fn next(&mut self) -> Option<RangeRecord> {
+        if self.at >= self.ranges.count {
+            return None;
+        }
+        let record = self.ranges.get(self.at);
+        self.at += 1;
+        Some(record)
     }
 }
 

@@ -4,11 +4,6 @@ use Rattle.tables.specs.Tables.{coverage_of}
 use Rattle.tables.proofs.Answering.{coverage_answered}
 use Rattle.tables.proofs.coverage.Coverage.get.Goals as goal
 
-pub returns-in-Glyphs : goal.returns-in-Glyphs
-returns-in-Glyphs c =
-    let is : c.find.result ≡ index_in (coverage_of c.args.self.now) c.args.glyph = search rules in
-    record { value = is; answers = coverage_answered (coverage_of c.args.self.now) c.args.glyph is }
-
 pub returns-in-Ranges : goal.returns-in-Ranges
 returns-in-Ranges c =
     let is : c.index_in_ranges.result ≡ index_in (coverage_of c.args.self.now) c.args.glyph = search rules in
