@@ -5,7 +5,7 @@ ghost use Rattle.opentype.specs.Walks.{walk_below};
 ghost use Rattle.readers.specs.Views.{uints_of};
 ghost use Rattle.tables.specs.Tables.{classes_of};
 ghost use Rattle.tables.specs.Views.{ranges_of};
-ghost use Rattle.adding.specs.Walked.{CarriedOut};
+ghost use Rattle.adding.specs.Walked.{CarriedOut, alone};
 
 use crate::gathering::Gathering;
 use crate::stop::Stop;
@@ -13,7 +13,7 @@ use digest::set_digest::SetDigest;
 use readers::uints::Uints;
 use readers::width::Two;
 use tables::class::ClassDef;
-use tables::ranges::RangeRecords;
+use tables::ranges::{RangeRecord, RangeRecords};
 use tables::search::Ranges;
 
 /// The largest glyph that an array adds.
@@ -64,21 +64,21 @@ impl Gathering<'_> {
     fn add_ranges(&mut self, ranges: &RangeRecords, class: u32) -> Result<(), Stop>
         ensures { let all = ranges_of ranges.now in CarriedOut (walk_below (add_range all class) all.count) self.old self.new result }
     {
-        for i in 0..ranges.len() {
-            self.add_range(ranges, i, class)?;
+        for range in ranges.iter() {
+            self.add_range(range, class)?;
         }
         Ok(())
     }
 
-    /// Adds range `index` where it has the class: as a span, in place of one glyph after the other. A reversed range has
-    /// no glyph.
-    fn add_range(&mut self, ranges: &RangeRecords, index: u32, class: u32) -> Result<(), Stop>
-        ensures { CarriedOut (add_range (ranges_of ranges.now) class index) self.old self.new result }
+    /// Adds a range where it has the class: as a span, in place of one glyph after the other. A reversed range has no
+    /// glyph.
+    fn add_range(&mut self, range: RangeRecord, class: u32) -> Result<(), Stop>
+        ensures { CarriedOut (add_range (alone range) class 0) self.old self.new result }
     {
-        if ranges.value(index) == class {
-            let (start, end) = ranges.bounds(index);
-            self.budget.work(u64::from(end.saturating_sub(start)) + 1)?;
-            add_glyphs_from(start, end, &mut self.digest);
+        if range.value == class {
+            self.budget
+                .work(u64::from(range.end.saturating_sub(range.start)) + 1)?;
+            add_glyphs_from(range.start, range.end, &mut self.digest);
         }
         Ok(())
     }
@@ -88,8 +88,8 @@ impl Gathering<'_> {
 fn add_entries(start: u16, classes: &Uints, class: u32, digest: &mut SetDigest)
     ensures masks { digest.new.masks ≡ add_entries start class (uints_of 2 classes.now) digest.old.masks }
 {
-    for k in 0..classes.len() {
-        if classes.get::<Two>(k) == class {
+    for (k, entry) in (0..classes.len()).zip(classes.iter::<Two>()) {
+        if entry == class {
             digest.add(u32::from(start).saturating_add(k).min(LAST_GLYPH));
         }
     }

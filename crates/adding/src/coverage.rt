@@ -43,8 +43,8 @@ impl Gathering<'_> {
 fn add_glyphs(glyphs: &Uints, digest: &mut SetDigest)
     ensures masks { let all = uints_of 2 glyphs.now in digest.new.masks ≡ fold_below (λ k ms. add_glyph ms (all.entry k)) all.count digest.old.masks }
 {
-    for k in 0..glyphs.len() {
-        digest.add(glyphs.get::<Two>(k));
+    for glyph in glyphs.iter::<Two>() {
+        digest.add(glyph);
     }
 }
 
@@ -52,9 +52,8 @@ fn add_glyphs(glyphs: &Uints, digest: &mut SetDigest)
 fn add_spans(ranges: &RangeRecords, digest: &mut SetDigest)
     ensures masks { let all = ranges_of ranges.now in digest.new.masks ≡ fold_below (λ k ms. add_span ms (all.start k) (all.end k)) all.count digest.old.masks }
 {
-    for k in 0..ranges.len() {
-        let (start, end) = ranges.bounds(k);
+    for range in ranges.iter() {
         // The sums by which a span is added always fit.
-        let _ = digest.add_range(start, end);
+        let _ = digest.add_range(range.start, range.end);
     }
 }

@@ -1,10 +1,27 @@
-use Rattle.std.proofs.Common.{arith}
-use Rattle.adding.proofs.Turns.{walks_on, walks_out}
+use Rattle.opentype.specs.Filters.{add_range}
+use Rattle.tables.specs.Records.{left_of, record_at}
+use Rattle.tables.specs.Views.{ranges_of}
+use Rattle.tables.specs.declared.ranges.RangeRecord.{RangeRecord}
+use Rattle.adding.specs.Walked.{alone}
+use Rattle.adding.proofs.Turns.{gives, walks_on, walks_out, walks_all}
 use Rattle.adding.proofs.gathering.Gathering.add_ranges.Goals as goal
 
 pub returns-in_err-add_range : goal.returns-in_err-add_range
 returns-in_err-add_range c =
-    walks_out _ _ _ c.loop-i.i c.loop-i.invariant c.args.ranges.now.count (omega arith) _ _ _ c.in_err-add_range.ensures c.from_residual.ensures.1
+    let all = ranges_of c.args.ranges.now in
+    walks_out (record_at all) all.count (gives left_of _ cc) c.loop-range.yielded _ c.loop-range.yielded_by c.next.new.self c.next.ensures.steps
+    (λ (range : RangeRecord). add_range (alone range) c.args.class 0) c.loop-range.invariant c.in-Some.range c.in-Some.is
+    c.in_err-add_range.ensures c.from_residual.ensures.1
 
-pub loop-i-preserved : goal.loop-i-preserved
-loop-i-preserved c = walks_on _ _ _ c.loop-i.i c.loop-i.invariant _ c.in_ok-add_range.ensures
+pub loop-range-preserved : goal.loop-range-preserved
+loop-range-preserved c =
+    let all = ranges_of c.args.ranges.now in
+    walks_on (record_at all) all.count (gives left_of _ cc) c.loop-range.yielded _ c.loop-range.yielded_by c.next.new.self c.next.ensures.steps
+    (λ (range : RangeRecord). add_range (alone range) c.args.class 0) c.loop-range.invariant c.in-Some.range c.in-Some.is
+    c.in_ok-add_range.ensures
+
+pub returns : goal.returns
+returns c =
+    let all = ranges_of c.args.ranges.now in
+    walks_all (record_at all) all.count (gives left_of _ cc) c.loop-range.yielded _ c.loop-range.yielded_by c.next.new.self c.next.ensures.steps
+    (λ (range : RangeRecord). add_range (alone range) c.args.class 0) c.loop-range.invariant c.in-None.is
