@@ -1,2 +1,1 @@
-mod Renumbering
 pub mod Searching

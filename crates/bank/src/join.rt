@@ -1,5 +1,6 @@
 //! Two banks as one.
-ghost use Rattle.std.specs.Prelude.{◌≡◌, true, ◌++◌, is_ok};
+ghost use Rattle.std.specs.Prelude.{◌≡◌, true, ◌++◌, is_ok, MatchOption};
+ghost use Rattle.opentype.specs.Meaning.{subtable};
 ghost use Rattle.bank.specs.Joined.{join_answer, joined_banks, renumbered};
 ghost use Rattle.bank.specs.Lawful.{joined_lawful};
 
@@ -48,58 +49,61 @@ pub fn check_join<A: Matching, B: Matching>(first: &A, second: &B) -> Result<(),
 fn renumber(answer: Result<Option<Hit>, Refusal>, k: u32) -> Result<Option<Hit>, Refusal>
     ensures value { result ≡ renumbered k answer }
 {
-    match answer {
-        Ok(Some(hit)) => Ok(Some(Hit { subtable: k, ..hit })),
-        _ => answer,
+    let hit = answer?;
+    Ok(hit.map(|hit| Hit { subtable: k, ..hit }))
+}
+
+impl<A: Matching, B: Matching> Join<A, B> {
+    /// The number that subtable `k` has in the second bank; none where the first bank answers for it. The first bank has
+    /// at most 32 subtables, so that a number past 32 is past its last: it answers for that too.
+    fn in_second(&self, k: u32) -> Option<u32>
+        ensures { let all = joined_banks (A.Matching.meaning self.now.first) (B.Matching.meaning self.now.second) in
+            MatchOption result (subtable (A.Matching.meaning self.now.first) k ≡ subtable all k)
+            (λ j. subtable (B.Matching.meaning self.now.second) j ≡ subtable all k) }
+    {
+        if k >= MOST_SUBTABLES {
+            return None;
+        }
+        k.checked_sub(self.first.count())
     }
 }
 
-// The first bank has at most 32 subtables, so that a number past 32 is past its last: it answers for that too.
 impl<A: Matching, B: Matching> Matching for Join<A, B> {
     ghost meaning = { λ join. joined_banks (A.Matching.meaning join.first) (B.Matching.meaning join.second) };
 
     ghost lawful = { λ join. joined_lawful (A.Matching.lawful join.first) (B.Matching.lawful join.second) };
 
     fn count(&self) -> u32 {
-        let n = self.first.count() + self.second.count();
-        if n < MOST_SUBTABLES {
-            n
-        } else {
-            MOST_SUBTABLES
-        }
+        (self.first.count() + self.second.count()).min(MOST_SUBTABLES)
     }
 
     fn would_apply(&self, k: u32, glyphs: &[u32], zero_context: bool) -> Result<bool, Refusal> {
-        let n = self.first.count();
-        if k < n || k >= MOST_SUBTABLES {
-            return self.first.would_apply(k, glyphs, zero_context);
+        match self.in_second(k) {
+            Some(j) => self.second.would_apply(j, glyphs, zero_context),
+            None => self.first.would_apply(k, glyphs, zero_context),
         }
-        self.second.would_apply(k - n, glyphs, zero_context)
     }
 
     fn hit(&self, k: u32, run: &[u32], place: usize) -> Result<Option<Hit>, Refusal> {
-        let n = self.first.count();
-        if k < n || k >= MOST_SUBTABLES {
-            return self.first.hit(k, run, place);
+        match self.in_second(k) {
+            Some(j) => renumber(self.second.hit(j, run, place), k),
+            None => self.first.hit(k, run, place),
         }
-        renumber(self.second.hit(k - n, run, place), k)
     }
 }
 
 impl<A: Filtering, B: Filtering> Filtering for Join<A, B> {
     fn can_filter(&self, k: u32) -> bool {
-        let n = self.first.count();
-        if k < n || k >= MOST_SUBTABLES {
-            return self.first.can_filter(k);
+        match self.in_second(k) {
+            Some(j) => self.second.can_filter(j),
+            None => self.first.can_filter(k),
         }
-        self.second.can_filter(k - n)
     }
 
     fn digest_second(&self, k: u32, budget: &mut Budget) -> Result<SetDigest, Refusal> {
-        let n = self.first.count();
-        if k < n || k >= MOST_SUBTABLES {
-            return self.first.digest_second(k, budget);
+        match self.in_second(k) {
+            Some(j) => self.second.digest_second(j, budget),
+            None => self.first.digest_second(k, budget),
         }
-        self.second.digest_second(k - n, budget)
     }
 }

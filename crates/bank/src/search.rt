@@ -17,6 +17,7 @@ pub fn any_applies<B: Matching>(
     ensures exactly { IfOk result (λ b. Decides b (SomeApplies (B.Matching.meaning bank.now) glyphs.now zero_context)) }
 {
     ask_list(glyphs)?;
+    // A bank is asked by number: it has no list of its subtables to go through.
     for k in 0..bank.count() {
         if bank.would_apply(k, glyphs, zero_context)? {
             return Ok(true);
@@ -33,6 +34,7 @@ pub fn first_hit<B: Matching>(bank: &B, run: &[u32], place: usize) -> Result<Opt
 {
     ask_place(run, place)?;
     let count = bank.count();
+    // Asked by number, as above.
     for k in 0..count {
         if let Some(hit) = bank.hit(k, run, place)? {
             return Ok(Some(hit));

@@ -42,14 +42,11 @@ pub trait ContextSubtable {
 pub fn hit_of(found: Option<Found>, place: usize, k: u32) -> Option<Hit>
     ensures value { result ≡ option_map (told place k) (option_map found_of found) }
 {
-    match found {
-        Some(found) => Some(Hit {
-            place,
-            subtable: k,
-            length: found.length,
-            records: found.records,
-            record_count: found.record_count,
-        }),
-        None => None,
-    }
+    found.map(|found| Hit {
+        place,
+        subtable: k,
+        length: found.length,
+        records: found.records,
+        record_count: found.record_count,
+    })
 }

@@ -43,10 +43,7 @@ impl<'a> Lookup<'a> {
     fn at(&self, k: u32) -> Option<&Subtable<'a>>
         ensures { meant result ≡ subtable (meanings self.now.subtables.items) k }
     {
-        if k as usize >= self.subtables.len() {
-            return None;
-        }
-        Some(&self.subtables[k as usize])
+        self.subtables.get(k as usize)
     }
 }
 
@@ -61,30 +58,24 @@ impl<'a> Matching for Lookup<'a> {
 
     fn would_apply(&self, k: u32, glyphs: &[u32], zero_context: bool) -> Result<bool, Refusal> {
         ask_list(glyphs)?;
-        match self.at(k) {
-            Some(subtable) => Ok(subtable.applies(glyphs, zero_context)),
-            None => Ok(false),
-        }
+        let subtable = self.at(k);
+        Ok(subtable.is_some_and(|subtable| subtable.applies(glyphs, zero_context)))
     }
 
     fn hit(&self, k: u32, run: &[u32], place: usize) -> Result<Option<Hit>, Refusal> {
         ask_place(run, place)?;
-        match self.at(k) {
-            Some(subtable) => Ok(hit_of(subtable.find(run, place), place, k)),
-            None => Ok(None),
-        }
+        let found = self.at(k).and_then(|subtable| subtable.find(run, place));
+        Ok(hit_of(found, place, k))
     }
 }
 
 impl<'a> Filtering for Lookup<'a> {
     fn can_filter(&self, k: u32) -> bool {
-        match self.at(k) {
-            Some(subtable) => subtable.can_filter(),
-            None => true,
-        }
+        self.at(k).is_none_or(|subtable| subtable.can_filter())
     }
 
     fn digest_second(&self, k: u32, budget: &mut Budget) -> Result<SetDigest, Refusal> {
+        // A match, since a closure that draws on the allowance would change what it captures.
         match self.at(k) {
             Some(subtable) => subtable.digest(budget),
             None => Ok(SetDigest::full()),

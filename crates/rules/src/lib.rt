@@ -2,9 +2,11 @@
 #![tactic(auto)]
 
 pub mod apply;
+pub mod iter;
 pub mod matching;
 pub mod parsed;
 pub mod rule_sets;
 mod sequence;
 pub mod sets;
 pub mod walk;
+pub mod widths;

@@ -8,7 +8,8 @@ ghost use Rattle.tables.specs.Tables.{classes_of};
 use tables::class::ClassDef;
 use tables::coverage::Coverage;
 
-/// How a value of a rule matches a glyph.
+/// How a value of a rule matches a glyph. A trait and no closure: contracts cite its meaning as a function of value and
+/// glyph, and of a closure they could only say which answers are possible.
 pub trait ValueMatch {
     ghost means: { Self → (value : ℕ) → (glyph : ℕ) → Bool };
 

@@ -7,6 +7,7 @@ ghost use Rattle.rules.specs.Views.{rule_of};
 use readers::bytes::number;
 use readers::uints::Uints;
 use readers::width::{Two, Width};
+use std::marker::PhantomData;
 
 /// The bytes of a record.
 const RECORD_BYTES: usize = 4;
@@ -20,14 +21,15 @@ pub struct RuleLayout {
     pub whole: usize,
 }
 
-/// A rule: its values, and the place in the subtable and the number of its records.
-#[derive(Clone, Copy)]
-pub struct ParsedRule<'a> {
+/// A rule: its values of the width `W`, and the place in the subtable and the number of its records.
+#[derive_where(Clone, Copy)]
+pub struct ParsedRule<'a, W> {
     pub backtrack: Uints<'a>,
     pub input: Uints<'a>,
     pub lookahead: Uints<'a>,
     pub records: usize,
     pub record_count: u32,
+    pub width: PhantomData<W>,
 }
 
 /// Numbers that lie in `bytes`, none of them.
@@ -41,20 +43,20 @@ fn no_values<'a>(bytes: &'a [u8]) -> Uints<'a>
     }
 }
 
-impl<'a> ParsedRule<'a> {
-    /// The rule that `bytes` begin with, its values of the width `W`: none unless it lies inside whole.
-    pub fn parse<W: Width>(bytes: &'a [u8], layout: RuleLayout) -> Option<ParsedRule<'a>>
+impl<'a, W: Width> ParsedRule<'a, W> {
+    /// The rule that `bytes` begin with, laid out so: none unless it lies inside whole.
+    pub fn parse(bytes: &'a [u8], layout: RuleLayout) -> Option<ParsedRule<'a, W>>
         ensures { option_map (rule_of W.Width.bytes) result ≡ rule_in layout.chained W.Width.bytes layout.whole (Some bytes.now) }
     {
         if layout.chained {
-            ParsedRule::chained::<W>(bytes, layout.whole)
+            ParsedRule::chained(bytes, layout.whole)
         } else {
-            ParsedRule::plain::<W>(bytes, layout.whole)
+            ParsedRule::plain(bytes, layout.whole)
         }
     }
 
     /// A plain rule: glyph count, record count, one value fewer than glyphs, records.
-    fn plain<W: Width>(bytes: &'a [u8], whole: usize) -> Option<ParsedRule<'a>>
+    fn plain(bytes: &'a [u8], whole: usize) -> Option<ParsedRule<'a, W>>
         ensures { option_map (rule_of W.Width.bytes) result ≡ plain_rule W.Width.bytes whole bytes.now }
     {
         let count = number::<Two>(bytes, 0).saturating_sub(1);
@@ -73,12 +75,13 @@ impl<'a> ParsedRule<'a> {
             lookahead: no_values(bytes),
             records: whole.saturating_sub(bytes.len()) + records,
             record_count,
+            width: PhantomData,
         })
     }
 
     /// A chained rule: backtrack count and values, input count and one value fewer, lookahead count and values, record
     /// count and records.
-    fn chained<W: Width>(bytes: &'a [u8], whole: usize) -> Option<ParsedRule<'a>>
+    fn chained(bytes: &'a [u8], whole: usize) -> Option<ParsedRule<'a, W>>
         ensures { option_map (rule_of W.Width.bytes) result ≡ chained_rule W.Width.bytes whole bytes.now }
     {
         let width = W::width() as u32;
@@ -110,6 +113,7 @@ impl<'a> ParsedRule<'a> {
             },
             records: whole.saturating_sub(bytes.len()) + (record_place + 2),
             record_count,
+            width: PhantomData,
         })
     }
 }

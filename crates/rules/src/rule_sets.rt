@@ -2,25 +2,29 @@
 ghost use Rattle.std.specs.Prelude.{◌≡◌};
 ghost use Rattle.std.specs.Option.{option_map};
 ghost use Rattle.opentype.specs.Matching.{rules_in, set_applies, set_finds};
-ghost use Rattle.rules.specs.Views.{found_of, layout_of, matchers_of, parts_in, set_of, sets_of};
+ghost use Rattle.readers.specs.Views.{entries};
+ghost use Rattle.rules.specs.Left.{sets_left};
+ghost use Rattle.rules.specs.Views.{found_of, layout_of, matchers_of, parts_in, rule_set_of, set_of, sets_of, tried_of};
 
+use crate::iter::SetsIter;
 use crate::matching::ValueMatch;
 use crate::parsed::RuleLayout;
-use crate::sets::RuleSet;
+use crate::sets::{RuleSet, Rules};
 use crate::walk::{ChainMatchers, Found};
+use crate::widths::RuleWidths;
 use readers::uints::Uints;
-use readers::width::Width;
+use std::marker::PhantomData;
 
-/// The rule sets of a subtable: its bytes, the offsets to its sets, and whether their rules are chained. The functions
-/// that read them name the widths of set offsets (`S`), rule offsets (`O`) and values (`W`).
-#[derive(Clone, Copy)]
-pub struct RuleSets<'a> {
+/// The rule sets of a subtable: its bytes, the offsets to its sets, and whether their rules are chained.
+#[derive_where(Clone, Copy)]
+pub struct RuleSets<'a, F> {
     pub bytes: &'a [u8],
     pub offsets: Uints<'a>,
     pub chained: bool,
+    pub widths: PhantomData<F>,
 }
 
-impl<'a> RuleSets<'a> {
+impl<'a, F: RuleWidths> RuleSets<'a, F> {
     /// How many sets there are.
     pub fn len(&self) -> u32
         ensures { result ≡ self.now.offsets.count }
@@ -39,51 +43,57 @@ impl<'a> RuleSets<'a> {
     }
 
     /// Set `index`.
-    pub fn set<S: Width, O: Width>(&self, index: u32) -> RuleSet<'a>
-        ensures { set_of O.Width.bytes result ≡ (parts_in S.Width.bytes O.Width.bytes self.now).entry index }
+    pub fn set(&self, index: u32) -> RuleSet<'a, F>
+        ensures parts { set_of F.Offset.bytes result ≡ (parts_in F.Set.bytes F.Offset.bytes self.now).entry index }
+        ensures rules { rule_set_of F.Offset.bytes F.Value.bytes result ≡ (sets_of F.Set.bytes F.Offset.bytes F.Value.bytes self.now).entry index }
     {
-        RuleSet::at::<O>(self.bytes, self.offsets.get::<S>(index))
+        RuleSet::at(self.bytes, self.layout(), self.offsets.get::<F::Set>(index))
+    }
+
+    /// The sets in order.
+    pub fn iter(&self) -> SetsIter<'a, F>
+        ensures { sets_left F.Set.bytes F.Offset.bytes F.Value.bytes result ≡ entries (sets_of F.Set.bytes F.Offset.bytes F.Value.bytes self.now) }
+    {
+        SetsIter { sets: *self, at: 0 }
+    }
+
+    /// The rules of set `index`: none where it is null or unreadable, or past the last set.
+    fn rules(&self, index: u32) -> Option<Rules<'a, F>>
+        ensures { rules_in (sets_of F.Set.bytes F.Offset.bytes F.Value.bytes self.now) index ≡ tried_of F.Offset.bytes F.Value.bytes result }
+    {
+        if index >= self.len() {
+            return None;
+        }
+        match self.set(index) {
+            RuleSet::Rules(rules) => Some(rules),
+            RuleSet::Null | RuleSet::Unreadable => None,
+        }
     }
 
     /// Whether some readable rule of set `index` applies to `glyphs`; there is none past the last set.
-    pub fn apply<S: Width, O: Width, W: Width, I: ValueMatch>(
+    pub fn apply<I: ValueMatch>(
         &self,
         index: u32,
         input: &I,
         glyphs: &[u32],
         zero_context: bool,
     ) -> bool
-        ensures { result ≡ set_applies (I.ValueMatch.means input.now) zero_context glyphs.now (rules_in (sets_of S.Width.bytes O.Width.bytes W.Width.bytes self.now) index) }
+        ensures { result ≡ set_applies (I.ValueMatch.means input.now) zero_context glyphs.now (rules_in (sets_of F.Set.bytes F.Offset.bytes F.Value.bytes self.now) index) }
     {
-        if index >= self.len() {
-            return false;
-        }
-        match self.set::<S, O>(index) {
-            RuleSet::Rules(rules) => {
-                rules.apply::<O, W, I>(self.layout(), input, glyphs, zero_context)
-            }
-            RuleSet::Null | RuleSet::Unreadable => false,
-        }
+        self.rules(index)
+            .is_some_and(|rules| rules.apply(input, glyphs, zero_context))
     }
 
     /// What the first readable rule of set `index` that matches at `place` of `run` tells.
-    pub fn find<S: Width, O: Width, W: Width, B: ValueMatch, I: ValueMatch, L: ValueMatch>(
+    pub fn find<B: ValueMatch, I: ValueMatch, L: ValueMatch>(
         &self,
         index: u32,
         matchers: &ChainMatchers<B, I, L>,
         run: &[u32],
         place: usize,
     ) -> Option<Found>
-        ensures { option_map found_of result ≡ set_finds (matchers_of B.ValueMatch.means I.ValueMatch.means L.ValueMatch.means matchers.now) run.now place (rules_in (sets_of S.Width.bytes O.Width.bytes W.Width.bytes self.now) index) }
+        ensures { option_map found_of result ≡ set_finds (matchers_of B.ValueMatch.means I.ValueMatch.means L.ValueMatch.means matchers.now) run.now place (rules_in (sets_of F.Set.bytes F.Offset.bytes F.Value.bytes self.now) index) }
     {
-        if index >= self.len() {
-            return None;
-        }
-        match self.set::<S, O>(index) {
-            RuleSet::Rules(rules) => {
-                rules.find::<O, W, B, I, L>(self.layout(), matchers, run, place)
-            }
-            RuleSet::Null | RuleSet::Unreadable => None,
-        }
+        self.rules(index)?.find(matchers, run, place)
     }
 }

@@ -1,25 +1,33 @@
 //! Rule sets, read in place.
 ghost use Rattle.std.specs.Prelude.{◌≡◌, Some};
 ghost use Rattle.std.specs.Option.{option_map};
-ghost use Rattle.opentype.specs.Rules.{rule_set_at, rule_set_in};
-ghost use Rattle.rules.specs.Views.{parts_of, rule_of, rules_of, set_of};
+ghost use Rattle.opentype.specs.Rules.{read_set, rule_in, rule_set_at, rule_set_in};
+ghost use Rattle.readers.specs.Views.{entries};
+ghost use Rattle.rules.specs.Left.{parts_left, rules_left};
+ghost use Rattle.rules.specs.Views.{parts_of, rule_of, rule_set_of, rules_of, set_of};
 
+use crate::iter::{PartsIter, RulesIter};
 use crate::parsed::{ParsedRule, RuleLayout};
+use crate::widths::RuleWidths;
 use readers::bytes::{number, tail};
 use readers::uints::Uints;
 use readers::width::{Two, Width};
+use std::marker::PhantomData;
 
 /// The bytes of a set's rule count.
 const COUNT_BYTES: u32 = 2;
 
-/// The rules of a set, read on demand: the set's bytes, and the offsets from its first byte to its rules.
-#[derive(Clone, Copy)]
-pub struct Rules<'a> {
+/// The rules of a set, read on demand: the set's bytes, the offsets from its first byte to its rules, and how these are
+/// laid out.
+#[derive_where(Clone, Copy)]
+pub struct Rules<'a, F> {
     pub bytes: &'a [u8],
     pub offsets: Uints<'a>,
+    pub layout: RuleLayout,
+    pub widths: PhantomData<F>,
 }
 
-impl<'a> Rules<'a> {
+impl<'a, F: RuleWidths> Rules<'a, F> {
     /// How many rules there are.
     pub fn len(&self) -> u32
         ensures { result ≡ self.now.offsets.count }
@@ -28,53 +36,67 @@ impl<'a> Rules<'a> {
     }
 
     /// The bytes of rule `index`, from its offset to the set's end: none where the offset passes it.
-    pub fn rule<O: Width>(&self, index: u32) -> Option<&'a [u8]>
-        ensures { option_map (λ x. x.now) result ≡ (parts_of O.Width.bytes self.now).entry index }
+    pub fn rule(&self, index: u32) -> Option<&'a [u8]>
+        ensures { option_map (λ x. x.now) result ≡ (parts_of F.Offset.bytes self.now).entry index }
     {
-        tail(self.bytes, self.offsets.get::<O>(index) as usize)
+        tail(self.bytes, self.offsets.get::<F::Offset>(index) as usize)
+    }
+
+    /// The bytes of the rules in order.
+    pub fn parts(&self) -> PartsIter<'a, F>
+        ensures { parts_left F.Offset.bytes result ≡ entries (parts_of F.Offset.bytes self.now) }
+    {
+        PartsIter {
+            rules: *self,
+            at: 0,
+        }
+    }
+
+    /// The rules in order, each readable or not.
+    pub fn iter(&self) -> RulesIter<'a, F>
+        ensures { rules_left F.Offset.bytes F.Value.bytes result ≡ entries (rules_of F.Offset.bytes F.Value.bytes self.now) }
+    {
+        RulesIter {
+            rules: *self,
+            at: 0,
+        }
     }
 
     /// Rule `index`; none where it is unreadable.
-    pub fn parsed<O: Width, W: Width>(
-        &self,
-        index: u32,
-        layout: RuleLayout,
-    ) -> Option<ParsedRule<'a>>
-        ensures { option_map (rule_of W.Width.bytes) result ≡ (rules_of O.Width.bytes W.Width.bytes layout self.now).entry index }
+    pub fn parsed(&self, index: u32) -> Option<ParsedRule<'a, F::Value>>
+        ensures { option_map (rule_of F.Value.bytes) result ≡ (rules_of F.Offset.bytes F.Value.bytes self.now).entry index }
     {
-        let bytes = self.rule::<O>(index)?;
-        ParsedRule::parse::<W>(bytes, layout)
+        ParsedRule::parse(self.rule(index)?, self.layout)
     }
 }
 
 /// A rule set of a subtable.
-#[derive(Clone, Copy)]
-pub enum RuleSet<'a> {
+#[derive_where(Clone, Copy)]
+pub enum RuleSet<'a, F> {
     Null,
     Unreadable,
-    Rules(Rules<'a>),
+    Rules(Rules<'a, F>),
 }
 
-impl<'a> RuleSet<'a> {
-    /// The set at `offset` of the subtable's bytes, with offsets of the width `O` to its rules.
-    pub fn at<O: Width>(bytes: &'a [u8], offset: u32) -> RuleSet<'a>
-        ensures { set_of O.Width.bytes result ≡ rule_set_at O.Width.bytes bytes.now offset }
+impl<'a, F: RuleWidths> RuleSet<'a, F> {
+    /// The set at `offset` of the subtable's bytes, its rules laid out so.
+    pub fn at(bytes: &'a [u8], layout: RuleLayout, offset: u32) -> RuleSet<'a, F>
+        ensures parts { set_of F.Offset.bytes result ≡ rule_set_at F.Offset.bytes bytes.now offset }
+        ensures rules { rule_set_of F.Offset.bytes F.Value.bytes result ≡ read_set (rule_in layout.chained F.Value.bytes layout.whole) (rule_set_at F.Offset.bytes bytes.now offset) }
     {
         if offset == 0 {
             return RuleSet::Null;
         }
-        match tail(bytes, offset as usize) {
-            Some(set) => RuleSet::read::<O>(set),
-            None => RuleSet::Unreadable,
-        }
+        tail(bytes, offset as usize).map_or(RuleSet::Unreadable, |set| RuleSet::read(set, layout))
     }
 
     /// The set that `bytes` begin with: a count, and an offset for each rule.
-    fn read<O: Width>(bytes: &'a [u8]) -> RuleSet<'a>
-        ensures { set_of O.Width.bytes result ≡ rule_set_in O.Width.bytes (Some bytes.now) }
+    fn read(bytes: &'a [u8], layout: RuleLayout) -> RuleSet<'a, F>
+        ensures parts { set_of F.Offset.bytes result ≡ rule_set_in F.Offset.bytes (Some bytes.now) }
+        ensures rules { rule_set_of F.Offset.bytes F.Value.bytes result ≡ read_set (rule_in layout.chained F.Value.bytes layout.whole) (rule_set_in F.Offset.bytes (Some bytes.now)) }
     {
         let count = number::<Two>(bytes, 0);
-        if COUNT_BYTES as usize + O::width() * count as usize > bytes.len() {
+        if COUNT_BYTES as usize + F::Offset::width() * count as usize > bytes.len() {
             return RuleSet::Unreadable;
         }
         RuleSet::Rules(Rules {
@@ -84,6 +106,8 @@ impl<'a> RuleSet<'a> {
                 start: COUNT_BYTES,
                 count,
             },
+            layout,
+            widths: PhantomData,
         })
     }
 }

@@ -5,9 +5,10 @@ ghost use Rattle.opentype.specs.Matching.{rule_finds, rule_matches, set_finds};
 ghost use Rattle.rules.specs.Views.{found_of, matchers_of, rule_of, rules_of};
 
 use crate::matching::ValueMatch;
-use crate::parsed::{ParsedRule, RuleLayout};
+use crate::parsed::ParsedRule;
 use crate::sequence::{matches_before, matches_from};
 use crate::sets::Rules;
+use crate::widths::RuleWidths;
 use readers::width::Width;
 
 /// How the values of a rule's three sequences match.
@@ -27,9 +28,9 @@ pub struct Found {
     pub record_count: u32,
 }
 
-impl<'a> ParsedRule<'a> {
+impl<'a, W: Width> ParsedRule<'a, W> {
     /// What the rule tells at `place` of `run`, where it matches there. The glyph at the place itself is not asked.
-    pub fn find<W: Width, B: ValueMatch, I: ValueMatch, L: ValueMatch>(
+    pub fn find<B: ValueMatch, I: ValueMatch, L: ValueMatch>(
         &self,
         matchers: &ChainMatchers<B, I, L>,
         run: &[u32],
@@ -37,20 +38,16 @@ impl<'a> ParsedRule<'a> {
     ) -> Option<Found>
         ensures { option_map found_of result ≡ rule_finds (matchers_of B.ValueMatch.means I.ValueMatch.means L.ValueMatch.means matchers.now) run.now place (Some (rule_of W.Width.bytes self.now)) }
     {
-        if self.matches::<W, B, I, L>(matchers, run, place) {
-            Some(Found {
-                length: self.input.count as usize + 1,
-                records: self.records,
-                record_count: self.record_count,
-            })
-        } else {
-            None
-        }
+        self.matches(matchers, run, place).then_some(Found {
+            length: self.input.count as usize + 1,
+            records: self.records,
+            record_count: self.record_count,
+        })
     }
 
     /// Whether the rule matches at `place` of `run`: inputs follow the place, lookahead follows them, backtrack goes
     /// outwards before it.
-    fn matches<W: Width, B: ValueMatch, I: ValueMatch, L: ValueMatch>(
+    fn matches<B: ValueMatch, I: ValueMatch, L: ValueMatch>(
         &self,
         matchers: &ChainMatchers<B, I, L>,
         run: &[u32],
@@ -62,36 +59,27 @@ impl<'a> ParsedRule<'a> {
         if place >= run.len() || run.len() - place <= inputs {
             return false;
         }
-        matches_from::<W, I>(&self.input, &matchers.input, run, place + 1)
-            && matches_from::<W, L>(
+        matches_from::<W, _>(&self.input, &matchers.input, run, place + 1)
+            && matches_from::<W, _>(
                 &self.lookahead,
                 &matchers.lookahead,
                 run,
                 place + 1 + inputs,
             )
-            && matches_before::<W, B>(&self.backtrack, &matchers.backtrack, run, place)
+            && matches_before::<W, _>(&self.backtrack, &matchers.backtrack, run, place)
     }
 }
 
-impl<'a> Rules<'a> {
+impl<'a, F: RuleWidths> Rules<'a, F> {
     /// What the first readable rule that matches at `place` of `run` tells.
-    pub fn find<O: Width, W: Width, B: ValueMatch, I: ValueMatch, L: ValueMatch>(
+    pub fn find<B: ValueMatch, I: ValueMatch, L: ValueMatch>(
         &self,
-        layout: RuleLayout,
         matchers: &ChainMatchers<B, I, L>,
         run: &[u32],
         place: usize,
     ) -> Option<Found>
-        ensures { option_map found_of result ≡ set_finds (matchers_of B.ValueMatch.means I.ValueMatch.means L.ValueMatch.means matchers.now) run.now place (rules_of O.Width.bytes W.Width.bytes layout self.now) }
+        ensures { option_map found_of result ≡ set_finds (matchers_of B.ValueMatch.means I.ValueMatch.means L.ValueMatch.means matchers.now) run.now place (rules_of F.Offset.bytes F.Value.bytes self.now) }
     {
-        for i in 0..self.len() {
-            let Some(rule) = self.parsed::<O, W>(i, layout) else {
-                continue;
-            };
-            if let Some(found) = rule.find::<W, B, I, L>(matchers, run, place) {
-                return Some(found);
-            }
-        }
-        None
+        self.iter().find_map(|rule| rule.and_then(|rule| rule.find(matchers, run, place)))
     }
 }

@@ -1,25 +1,19 @@
-use Rattle.std.proofs.Common.{sym, ap, ◌∙◌, arith}
+use Rattle.std.proofs.Common.{◌∙◌, rules, tests}
+use Rattle.std.specs.Option.{option_map}
+use Rattle.std.proofs.lemmas.Iterator.Consumers.{YieldsList-from_first}
+use Rattle.std.proofs.lemmas.Iterator.Search.{any_from_yields_List}
 use Rattle.opentype.specs.Matching.{rule_applies}
-use Rattle.opentype.proofs.Matched.{any_met, any_more}
-use Rattle.rules.specs.Views.{rules_of}
+use Rattle.readers.specs.Views.{entries}
+use Rattle.rules.specs.Left.{rules_left}
+use Rattle.rules.specs.Views.{rule_of, rules_of}
+use Rattle.rules.proofs.Entries.{any_entries}
 use Rattle.rules.proofs.sets.Rules.apply.Goals as goal
 
-pub loop-i-preserved-in_default : goal.loop-i-preserved-in_default
-loop-i-preserved-in_default g c =
+pub returns : goal.returns
+returns g c =
     let test = rule_applies (g.I.ValueMatch.means c.args.input.now) c.args.zero_context c.args.glyphs.now in
-    let all = rules_of g.O.Width.bytes g.W.Width.bytes c.args.layout c.args.self.now in
-    any_more (λ k. test (all.entry k)) c.loop-i.i c.loop-i.invariant (sym (ap test c.in_default.ensures))
-
-pub returns-then-applies : goal.returns-then-applies
-returns-then-applies g c =
-    let test = rule_applies (g.I.ValueMatch.means c.args.input.now) c.args.zero_context c.args.glyphs.now in
-    let all = rules_of g.O.Width.bytes g.W.Width.bytes c.args.layout c.args.self.now in
-    any_met (λ k. test (all.entry k)) all.count c.loop-i.i (omega arith)
-    (sym (ap test c.in-Some.ensures) ∙ sym c.applies.ensures ∙ c.if-applies.true)
-
-pub loop-i-preserved : goal.loop-i-preserved
-loop-i-preserved g c =
-    let test = rule_applies (g.I.ValueMatch.means c.args.input.now) c.args.zero_context c.args.glyphs.now in
-    let all = rules_of g.O.Width.bytes g.W.Width.bytes c.args.layout c.args.self.now in
-    any_more (λ k. test (all.entry k)) c.loop-i.i c.loop-i.invariant
-    (sym (ap test c.in-Some.ensures) ∙ sym c.applies.ensures ∙ c.if-applies.false)
+    let all = rules_of g.F.Offset.Width.bytes g.F.Value.Width.bytes c.args.self.now in
+    any_from_yields_List test c.any.new.self _ _ c.any.ensures.ran
+    (YieldsList-from_first (option_map (rule_of g.F.Value.Width.bytes)) (rules_left g.F.Offset.Width.bytes g.F.Value.Width.bytes) (entries all) c.iter.ensures)
+    (λ x b q k. search (rules, tests))
+    ∙ any_entries test all

@@ -1,0 +1,18 @@
+-- What iterators over rules and rule sets have left.
+-- Assumes nothing.
+use Rattle.std.specs.Prelude.{ℕ, List, Option}
+use Rattle.opentype.specs.Rules.{Rule, RuleSet}
+use Rattle.readers.specs.Views.{entries_from}
+use Rattle.rules.specs.Views.{parts_of, rules_of, sets_of}
+use Rattle.rules.specs.declared.iter.PartsIter.{PartsIter}
+use Rattle.rules.specs.declared.iter.RulesIter.{RulesIter}
+use Rattle.rules.specs.declared.iter.SetsIter.{SetsIter}
+
+abbrev pub parts_left : {F : Type 0} → (offset : ℕ) → PartsIter F → List (Option (List ℕ))
+parts_left offset it = entries_from it.at (parts_of offset it.rules)
+
+abbrev pub rules_left : {F : Type 0} → (offset value : ℕ) → RulesIter F → List (Option (Rule ℕ))
+rules_left offset value it = entries_from it.at (rules_of offset value it.rules)
+
+abbrev pub sets_left : {F : Type 0} → (set offset value : ℕ) → SetsIter F → List (RuleSet (Option (Rule ℕ)))
+sets_left set offset value it = entries_from it.at (sets_of set offset value it.sets)
