@@ -1,7 +1,7 @@
 -- The turns of loops over the entries of an array that walk, and of those that only add.
 -- Assumes nothing.
 use Rattle.std.proofs.Common.{◌≡◌, ℕ, zero, suc, refl, ◌+◌, ◌-◌, ◌<◌, List, map, [], ◌∷◌, ◌++◌, length, Some, None, Option, Ok, Err, Result, IsErrAnd, sym, ap, ◌∙◌, subst, add-one, arith}
-use Rattle.std.specs.Iterator.{Yields, YieldsFirst}
+use Rattle.std.specs.Iterator.{Yields, YieldsFirst, YieldsFirstBy}
 use Rattle.std.specs.List.{range_with_len, zip}
 use Rattle.std.proofs.iter.Yields.{nat_range_steps}
 use Rattle.std.specs.declared.iter.Zip.{Zip}
@@ -54,9 +54,10 @@ module _ (step : ℕ → List ℕ → Step) {start here : Gathering} (i : ℕ) (
 
 -- ---- iterators that give the entries of an array
 
--- one whose call gives the first of what is left
-pub gives : {S X : Type 0} (rest : S → List X) {s : S} (xs : List X) → rest s ≡ xs → YieldsList (YieldsFirst rest) (λ x. x) s xs
-gives {S} {X} rest xs all = YieldsList-from_first (λ (y : X). y) rest xs all
+-- one whose call gives the first of what is left, as it shows
+pub gives : {S A X : Type 0} (shows : A → X) (rest : S → List X) {s t : S} {xs : List X} → t ≡ s → rest s ≡ xs
+    → YieldsList (YieldsFirstBy shows rest) shows t xs
+gives shows rest {xs = xs} is all = YieldsList-from_first shows rest xs (ap rest is ∙ all)
 
 zip_entries : {X : Type 0} (f : ℕ → X) (a n : ℕ) → zip (range_with_len a n) (map f (range_with_len a n)) ≡ map (λ k. (k, f k)) (range_with_len a n)
 zip_entries f a zero = refl
@@ -66,20 +67,20 @@ zip_entries f a (suc n) = ap (λ ps. (a, f a) ∷ ps) (zip_entries f (a + 1) n)
 pub gives_numbered : {S X : Type 0} (rest : S → List X) (f : ℕ → X) (n : ℕ) {s : Zip (Range ℕ) S} → zip_first s ≡ record { start = 0; end = n }
     → rest (zip_second s) ≡ map f (range_with_len 0 (n - 0))
     → YieldsList (zips nat_range_steps (YieldsFirst rest)) (λ p. p) s (map (λ k. (k, f k)) (range_with_len 0 (n - 0)))
-gives_numbered rest f n {s} range all =
-    rw (← zip_entries f 0 (n - 0)) (YieldsList-from_zip (YieldsList-from_range 0 n (n - 0) range (omega arith)) (gives rest _ all))
+gives_numbered {S} {X} rest f n {s} range all =
+    rw (← zip_entries f 0 (n - 0)) (YieldsList-from_zip (YieldsList-from_range 0 n (n - 0) range (omega arith)) (gives (λ (x : X). x) rest refl all))
 
 -- ---- a turn of a loop over the entries of an array, from a state in which the iterator has given `xs`
 
-module _ {S X : Type 0} {steps : S → Option X → S → Type 0} (f : ℕ → X) (n : ℕ) {s : S}
-    (all : YieldsList steps (λ x. x) s (map f (range_with_len 0 (n - 0))))
-    (xs : List X) (t : S) (before : Yields steps s xs t) {r : Option X} (u : S) (now : steps t r u) where
-  -- the item is the entry at the number of turns before it
-  item_is : (x : X) → r ≡ Some x → (length xs < n) × (x ≡ f (length xs))
+module _ {S A X : Type 0} {steps : S → Option A → S → Type 0} {shows : A → X} (f : ℕ → X) (n : ℕ) {s : S}
+    (all : YieldsList steps shows s (map f (range_with_len 0 (n - 0))))
+    (xs : List A) (t : S) (before : Yields steps s xs t) {r : Option A} (u : S) (now : steps t r u) where
+  -- the item shows the entry at the number of turns before it
+  item_is : (x : A) → r ≡ Some x → (length xs < n) × (shows x ≡ f (length xs))
   item_is x is =
       let t = YieldsList-turn all xs t before r u x is now in
       let within : length xs < n = omega (arith, length-map-range_with_len f 0 (n - 0)) in
-      (within, t.1 ∙ get_or-map-range_with_len f 0 (n - 0) (length xs) (length xs) x (omega arith) (omega arith))
+      (within, t.1 ∙ get_or-map-range_with_len f 0 (n - 0) (length xs) (length xs) (shows x) (omega arith) (omega arith))
 
   -- there are as many turns as entries
   all_taken : r ≡ None → length xs ≡ n
@@ -90,7 +91,7 @@ module _ {S X : Type 0} {steps : S → Option X → S → Type 0} (f : ℕ → X
   -- ---- the loop only adds
 
   module _ (add : X → List ℕ → List ℕ) (start m : List ℕ) (added : m ≡ fold_below (λ k. add (f k)) (length xs) start) where
-    pub adds_on : (x : X) → r ≡ Some x → {m' : List ℕ} → m' ≡ add x m → m' ≡ fold_below (λ k. add (f k)) (length (xs ++ x ∷ [])) start
+    pub adds_on : (x : A) → r ≡ Some x → {m' : List ℕ} → m' ≡ add (shows x) m → m' ≡ fold_below (λ k. add (f k)) (length (xs ++ x ∷ [])) start
     adds_on x is {m'} e = rw (length_push, add-one) (e ∙ ap (λ (y : X). add y m) (item_is x is).1 ∙ ap (add (f (length xs))) added)
 
     pub adds_all : r ≡ None → m ≡ fold_below (λ k. add (f k)) n start
@@ -101,14 +102,14 @@ module _ {S X : Type 0} {steps : S → Option X → S → Type 0} (f : ℕ → X
   module _ (step : X → List ℕ → Step) {start here : Gathering} (walked : CarriedOut (walk_below (λ k. step (f k)) (length xs)) start here (Ok tt))
     where
       -- it goes on
-      pub walks_on : (x : X) → r ≡ Some x → {next : Gathering} → CarriedOut (step x) here next (Ok tt)
+      pub walks_on : (x : A) → r ≡ Some x → {next : Gathering} → CarriedOut (step (shows x)) here next (Ok tt)
           → CarriedOut (walk_below (λ k. step (f k)) (length (xs ++ x ∷ []))) start next (Ok tt)
       walks_on x is {next} now =
           let here : CarriedOut (step (f (length xs))) here next (Ok tt) = subst (λ (y : X). CarriedOut (step y) here next (Ok tt)) (item_is x is).1 now in
           rw length_push (goes_on (λ k. step (f k)) (length xs) walked here)
 
       -- it stops, and with it the walk
-      pub walks_out : (x : X) → r ≡ Some x → {next : Gathering} {stop : Stop} {a : Result (Unit {0}) Stop} → CarriedOut (step x) here next (Err stop)
+      pub walks_out : (x : A) → r ≡ Some x → {next : Gathering} {stop : Stop} {a : Result (Unit {0}) Stop} → CarriedOut (step (shows x)) here next (Err stop)
           → IsErrAnd a (λ e. e ≡ stop) → CarriedOut (walk_below (λ k. step (f k)) n) start next a
       walks_out x is {next} {stop} {a} now out =
           let i = item_is x is in

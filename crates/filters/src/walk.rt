@@ -1,12 +1,13 @@
 //! The walk over the rules of a subtable that gathers the glyphs which may follow the first one in a match.
 ghost use Rattle.std.specs.Prelude.{◌≡◌, ℕ, Some};
+ghost use Rattle.std.specs.Option.{option_map};
 ghost use Rattle.opentype.specs.Filters.{Adding, add_rule, add_set, add_sets};
 ghost use Rattle.opentype.specs.Masks.{none};
 ghost use Rattle.opentype.specs.Subtables.{glyph_adding};
 ghost use Rattle.opentype.specs.Walks.{walk};
 ghost use Rattle.digest.specs.Allowances.{allowance_of};
 ghost use Rattle.adding.specs.Walked.{CarriedOut};
-ghost use Rattle.rules.specs.Views.{rule_of, rules_of, sets_of};
+ghost use Rattle.rules.specs.Views.{rule_of, rule_set_of, rules_of, sets_of};
 ghost use Rattle.filters.specs.Seconds.{classes_adding, offsets_adding};
 ghost use Rattle.filters.specs.Digested.{Walked, gathered, masks_in};
 
@@ -15,9 +16,10 @@ use adding::stop::Stop;
 use digest::budget::{Budget, Exhausted};
 use digest::set_digest::SetDigest;
 use readers::width::Width;
-use rules::parsed::{ParsedRule, RuleLayout};
+use rules::parsed::ParsedRule;
 use rules::rule_sets::RuleSets;
 use rules::sets::{RuleSet, Rules};
+use rules::widths::RuleWidths;
 use tables::class::ClassDef;
 use tables::coverage::Coverage;
 
@@ -87,35 +89,35 @@ impl AddSecond for SecondCoverage<'_> {
 
 /// The filter of a subtable of rule sets: the glyphs that may follow the first one in a match. All ones where a set or a
 /// rule is unreadable, or any glyph may follow in a rule.
-pub fn add_sets<S: Width, O: Width, W: Width, A: AddSecond>(
-    sets: &RuleSets,
+pub fn add_sets<F: RuleWidths, A: AddSecond>(
+    sets: &RuleSets<F>,
     adding: &A,
     budget: &mut Budget,
 ) -> Result<SetDigest, Exhausted>
-    ensures walked { Walked (add_sets (A.AddSecond.adding adding.now) (sets_of S.Width.bytes O.Width.bytes W.Width.bytes sets.now)) (allowance_of budget.old) (allowance_of budget.new) result }
+    ensures walked { Walked (add_sets (A.AddSecond.adding adding.now) (sets_of F.Set.BYTES F.Offset.BYTES F.Value.BYTES sets.now)) (allowance_of budget.old) (allowance_of budget.new) result }
 {
     budget.work(u64::from(sets.len()))?;
     let mut gathering = Gathering {
         digest: SetDigest::new(),
         budget,
     };
-    let walked = add_each_set::<S, O, W, A>(sets, adding, &mut gathering);
+    let walked = add_each_set(sets, adding, &mut gathering);
     settle(walked, gathering.digest)
 }
 
 /// The filter of one rule.
 pub fn add_rule_alone<W: Width, A: AddSecond>(
-    rule: &ParsedRule,
+    rule: &ParsedRule<W>,
     adding: &A,
     budget: &mut Budget,
 ) -> Result<SetDigest, Exhausted>
-    ensures walked { Walked (add_rule (A.AddSecond.adding adding.now) (Some (rule_of W.Width.bytes rule.now)) none) (allowance_of budget.old) (allowance_of budget.new) result }
+    ensures walked { Walked (add_rule (A.AddSecond.adding adding.now) (Some (rule_of W.Width.BYTES rule.now)) none) (allowance_of budget.old) (allowance_of budget.new) result }
 {
     let mut gathering = Gathering {
         digest: SetDigest::new(),
         budget,
     };
-    let walked = add_rule::<W, A>(rule, adding, &mut gathering);
+    let walked = add_rule(rule, adding, &mut gathering);
     settle(walked, gathering.digest)
 }
 
@@ -131,75 +133,59 @@ fn settle(walked: Result<(), Stop>, digest: SetDigest) -> Result<SetDigest, Exha
 }
 
 /// Adds each set in turn.
-fn add_each_set<S: Width, O: Width, W: Width, A: AddSecond>(
-    sets: &RuleSets,
+fn add_each_set<F: RuleWidths, A: AddSecond>(
+    sets: &RuleSets<F>,
     adding: &A,
     gathering: &mut Gathering,
 ) -> Result<(), Stop>
-    ensures { let all = sets_of S.Width.bytes O.Width.bytes W.Width.bytes sets.now in CarriedOut (walk (add_set (A.AddSecond.adding adding.now)) all) gathering.old gathering.new result }
+    ensures { let all = sets_of F.Set.BYTES F.Offset.BYTES F.Value.BYTES sets.now in CarriedOut (walk (add_set (A.AddSecond.adding adding.now)) all) gathering.old gathering.new result }
 {
-    for i in 0..sets.len() {
-        add_set::<S, O, W, A>(sets, i, adding, gathering)?;
+    for set in sets.iter() {
+        add_set(set, adding, gathering)?;
     }
     Ok(())
 }
 
-/// Adds set `index`: draws its rule count, and adds each rule in turn. A null set is passed over, an unreadable one stops
-/// the walk.
-fn add_set<S: Width, O: Width, W: Width, A: AddSecond>(
-    sets: &RuleSets,
-    index: u32,
+/// Adds a set: draws its rule count, and adds each rule in turn. A null set is passed over, an unreadable one stops the
+/// walk.
+fn add_set<F: RuleWidths, A: AddSecond>(
+    set: RuleSet<F>,
     adding: &A,
     gathering: &mut Gathering,
 ) -> Result<(), Stop>
-    ensures { CarriedOut (add_set (A.AddSecond.adding adding.now) ((sets_of S.Width.bytes O.Width.bytes W.Width.bytes sets.now).entry index)) gathering.old gathering.new result }
+    ensures { CarriedOut (add_set (A.AddSecond.adding adding.now) (rule_set_of F.Offset.BYTES F.Value.BYTES set.entry)) gathering.old gathering.new result }
 {
-    match sets.set::<S, O>(index) {
+    match set {
         RuleSet::Null => Ok(()),
         RuleSet::Unreadable => Err(Stop::AnyGlyph),
         RuleSet::Rules(rules) => {
             gathering.budget.work(u64::from(rules.len()))?;
-            add_rules::<O, W, A>(&rules, sets.layout(), adding, gathering)
+            add_rules(&rules, adding, gathering)
         }
     }
 }
 
-/// Adds each rule of a set in turn.
-fn add_rules<O: Width, W: Width, A: AddSecond>(
-    rules: &Rules,
-    layout: RuleLayout,
+/// Adds each rule of a set in turn. An unreadable one stops the walk.
+fn add_rules<F: RuleWidths, A: AddSecond>(
+    rules: &Rules<F>,
     adding: &A,
     gathering: &mut Gathering,
 ) -> Result<(), Stop>
-    ensures { CarriedOut (walk (add_rule (A.AddSecond.adding adding.now)) (rules_of O.Width.bytes W.Width.bytes layout rules.now)) gathering.old gathering.new result }
+    ensures { CarriedOut (walk (add_rule (A.AddSecond.adding adding.now)) (rules_of F.Offset.BYTES F.Value.BYTES rules.now)) gathering.old gathering.new result }
 {
-    for i in 0..rules.len() {
-        add_rule_at::<O, W, A>(rules, i, layout, adding, gathering)?;
+    for rule in rules.iter() {
+        add_rule(&rule.ok_or(Stop::AnyGlyph)?, adding, gathering)?;
     }
     Ok(())
 }
 
-/// Adds rule `index` of a set. An unreadable one stops the walk.
-fn add_rule_at<O: Width, W: Width, A: AddSecond>(
-    rules: &Rules,
-    index: u32,
-    layout: RuleLayout,
-    adding: &A,
-    gathering: &mut Gathering,
-) -> Result<(), Stop>
-    ensures { CarriedOut (add_rule (A.AddSecond.adding adding.now) ((rules_of O.Width.bytes W.Width.bytes layout rules.now).entry index)) gathering.old gathering.new result }
-{
-    let rule = rules.parsed::<O, W>(index, layout).ok_or(Stop::AnyGlyph)?;
-    add_rule::<W, A>(&rule, adding, gathering)
-}
-
 /// Adds a rule by its first input value, or else by its first lookahead value: any glyph may follow where it has neither.
 fn add_rule<W: Width, A: AddSecond>(
-    rule: &ParsedRule,
+    rule: &ParsedRule<W>,
     adding: &A,
     gathering: &mut Gathering,
 ) -> Result<(), Stop>
-    ensures { CarriedOut (add_rule (A.AddSecond.adding adding.now) (Some (rule_of W.Width.bytes rule.now))) gathering.old gathering.new result }
+    ensures { CarriedOut (add_rule (A.AddSecond.adding adding.now) (Some (rule_of W.Width.BYTES rule.now))) gathering.old gathering.new result }
 {
     if !rule.input.is_empty() {
         adding.add_input(rule.input.get::<W>(0), gathering)

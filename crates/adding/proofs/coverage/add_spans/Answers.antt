@@ -10,7 +10,7 @@ use Rattle.adding.proofs.coverage.add_spans.Goals as goal
 pub loop-range-preserved : goal.loop-range-preserved
 loop-range-preserved c =
     let all = ranges_of c.args.ranges.now in
-    adds_on (record_at all) all.count (gives left_of _ cc) c.loop-range.yielded _ c.loop-range.yielded_by c.next.new.self c.next.ensures.steps
+    adds_on (record_at all) all.count (gives (λ (range : RangeRecord). range) left_of c.into_iter-range-iterator.ensures.into_iter_gives c.iter-range-items.ensures) c.loop-range.yielded _ c.loop-range.yielded_by c.next.new.self c.next.ensures.steps
     (λ (range : RangeRecord) (ms : List ℕ). add_span ms range.start range.end) _ _ c.loop-range.invariant c.in-Some.range c.in-Some.is
     (rw sums_fit at c.add_range.ensures.value)
 
@@ -19,6 +19,6 @@ returns c =
     let all = ranges_of c.args.ranges.now in
     record {
       masks =
-          adds_all (record_at all) all.count (gives left_of _ cc) c.loop-range.yielded _ c.loop-range.yielded_by c.next.new.self c.next.ensures.steps
+          adds_all (record_at all) all.count (gives (λ (range : RangeRecord). range) left_of c.into_iter-range-iterator.ensures.into_iter_gives c.iter-range-items.ensures) c.loop-range.yielded _ c.loop-range.yielded_by c.next.new.self c.next.ensures.steps
           (λ (range : RangeRecord) (ms : List ℕ). add_span ms range.start range.end) _ _ c.loop-range.invariant c.in-None.is;
     }
