@@ -13,7 +13,7 @@ use readers::width::Width;
 impl<'a, W: Width> ParsedRule<'a, W> {
     /// Whether the rule applies to `glyphs`; where `zero_context`, only without backtrack and lookahead.
     pub fn applies<I: ValueMatch>(&self, input: &I, glyphs: &[u32], zero_context: bool) -> bool
-        ensures { result ≡ rule_applies (I.ValueMatch.means input.now) zero_context glyphs.now (Some (rule_of W.Width.bytes self.now)) }
+        ensures { result ≡ rule_applies (I.ValueMatch.means input.now) zero_context glyphs.now (Some (rule_of W.Width.BYTES self.now)) }
     {
         glyphs.len() == self.input.count as usize + 1
             && (!zero_context || (self.backtrack.is_empty() && self.lookahead.is_empty()))
@@ -24,7 +24,7 @@ impl<'a, W: Width> ParsedRule<'a, W> {
 impl<'a, F: RuleWidths> Rules<'a, F> {
     /// Whether some readable rule of the set applies.
     pub fn apply<I: ValueMatch>(&self, input: &I, glyphs: &[u32], zero_context: bool) -> bool
-        ensures { result ≡ set_applies (I.ValueMatch.means input.now) zero_context glyphs.now (rules_of F.Offset.bytes F.Value.bytes self.now) }
+        ensures { result ≡ set_applies (I.ValueMatch.means input.now) zero_context glyphs.now (rules_of F.Offset.BYTES F.Value.BYTES self.now) }
     {
         self.iter().any(|rule| rule.is_some_and(|rule| rule.applies(input, glyphs, zero_context)))
     }

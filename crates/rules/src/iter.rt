@@ -19,9 +19,9 @@ pub struct RulesIter<'a, F> {
 impl<'a, F: RuleWidths> Iterator for RulesIter<'a, F> {
     type Item = Option<ParsedRule<'a, F::Value>>;
 
-    ghost next_gives = { YieldsFirstBy (option_map (rule_of F.Value.bytes)) (rules_left F.Offset.bytes F.Value.bytes) };
+    ghost next_gives = { YieldsFirstBy (option_map (rule_of F.Value.BYTES)) (rules_left F.Offset.BYTES F.Value.BYTES) };
 
-    ghost remaining = { item_count (rules_left F.Offset.bytes F.Value.bytes) };
+    ghost remaining = { item_count (rules_left F.Offset.BYTES F.Value.BYTES) };
 
     fn next(&mut self) -> Option<Option<ParsedRule<'a, F::Value>>> {
         if self.at >= self.rules.len() {
@@ -43,9 +43,9 @@ pub struct PartsIter<'a, F> {
 impl<'a, F: RuleWidths> Iterator for PartsIter<'a, F> {
     type Item = Option<&'a [u8]>;
 
-    ghost next_gives = { YieldsFirstBy (option_map (λ x. x.now)) (parts_left F.Offset.bytes) };
+    ghost next_gives = { YieldsFirstBy (option_map (λ x. x.now)) (parts_left F.Offset.BYTES) };
 
-    ghost remaining = { item_count (parts_left F.Offset.bytes) };
+    ghost remaining = { item_count (parts_left F.Offset.BYTES) };
 
     fn next(&mut self) -> Option<Option<&'a [u8]>> {
         if self.at >= self.rules.len() {
@@ -67,9 +67,9 @@ pub struct SetsIter<'a, F> {
 impl<'a, F: RuleWidths> Iterator for SetsIter<'a, F> {
     type Item = RuleSet<'a, F>;
 
-    ghost next_gives = { YieldsFirstBy (rule_set_of F.Offset.bytes F.Value.bytes) (sets_left F.Set.bytes F.Offset.bytes F.Value.bytes) };
+    ghost next_gives = { YieldsFirstBy (rule_set_of F.Offset.BYTES F.Value.BYTES) (sets_left F.Set.BYTES F.Offset.BYTES F.Value.BYTES) };
 
-    ghost remaining = { item_count (sets_left F.Set.bytes F.Offset.bytes F.Value.bytes) };
+    ghost remaining = { item_count (sets_left F.Set.BYTES F.Offset.BYTES F.Value.BYTES) };
 
     #[tactic(auto, using(crate::proofs::Entries::entries_more))]
     fn next(&mut self) -> Option<RuleSet<'a, F>> {

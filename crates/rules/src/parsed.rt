@@ -46,7 +46,7 @@ fn no_values<'a>(bytes: &'a [u8]) -> Uints<'a>
 impl<'a, W: Width> ParsedRule<'a, W> {
     /// The rule that `bytes` begin with, laid out so: none unless it lies inside whole.
     pub fn parse(bytes: &'a [u8], layout: RuleLayout) -> Option<ParsedRule<'a, W>>
-        ensures { option_map (rule_of W.Width.bytes) result ≡ rule_in layout.chained W.Width.bytes layout.whole (Some bytes.now) }
+        ensures { option_map (rule_of W.Width.BYTES) result ≡ rule_in layout.chained W.Width.BYTES layout.whole (Some bytes.now) }
     {
         if layout.chained {
             ParsedRule::chained(bytes, layout.whole)
@@ -57,11 +57,11 @@ impl<'a, W: Width> ParsedRule<'a, W> {
 
     /// A plain rule: glyph count, record count, one value fewer than glyphs, records.
     fn plain(bytes: &'a [u8], whole: usize) -> Option<ParsedRule<'a, W>>
-        ensures { option_map (rule_of W.Width.bytes) result ≡ plain_rule W.Width.bytes whole bytes.now }
+        ensures { option_map (rule_of W.Width.BYTES) result ≡ plain_rule W.Width.BYTES whole bytes.now }
     {
         let count = number::<Two>(bytes, 0).saturating_sub(1);
         let record_count = number::<Two>(bytes, 2);
-        let records = 4 + W::width() * count as usize;
+        let records = 4 + W::BYTES * count as usize;
         if records + RECORD_BYTES * record_count as usize > bytes.len() {
             return None;
         }
@@ -82,9 +82,9 @@ impl<'a, W: Width> ParsedRule<'a, W> {
     /// A chained rule: backtrack count and values, input count and one value fewer, lookahead count and values, record
     /// count and records.
     fn chained(bytes: &'a [u8], whole: usize) -> Option<ParsedRule<'a, W>>
-        ensures { option_map (rule_of W.Width.bytes) result ≡ chained_rule W.Width.bytes whole bytes.now }
+        ensures { option_map (rule_of W.Width.BYTES) result ≡ chained_rule W.Width.BYTES whole bytes.now }
     {
-        let width = W::width() as u32;
+        let width = W::BYTES as u32;
         let backtracks = number::<Two>(bytes, 0);
         let input_place = 2 + width * backtracks;
         let inputs = number::<Two>(bytes, input_place as usize).saturating_sub(1);

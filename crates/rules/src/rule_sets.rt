@@ -44,22 +44,22 @@ impl<'a, F: RuleWidths> RuleSets<'a, F> {
 
     /// Set `index`.
     pub fn set(&self, index: u32) -> RuleSet<'a, F>
-        ensures parts { set_of F.Offset.bytes result ≡ (parts_in F.Set.bytes F.Offset.bytes self.now).entry index }
-        ensures rules { rule_set_of F.Offset.bytes F.Value.bytes result ≡ (sets_of F.Set.bytes F.Offset.bytes F.Value.bytes self.now).entry index }
+        ensures parts { set_of F.Offset.BYTES result ≡ (parts_in F.Set.BYTES F.Offset.BYTES self.now).entry index }
+        ensures rules { rule_set_of F.Offset.BYTES F.Value.BYTES result ≡ (sets_of F.Set.BYTES F.Offset.BYTES F.Value.BYTES self.now).entry index }
     {
         RuleSet::at(self.bytes, self.layout(), self.offsets.get::<F::Set>(index))
     }
 
     /// The sets in order.
     pub fn iter(&self) -> SetsIter<'a, F>
-        ensures { sets_left F.Set.bytes F.Offset.bytes F.Value.bytes result ≡ entries (sets_of F.Set.bytes F.Offset.bytes F.Value.bytes self.now) }
+        ensures { sets_left F.Set.BYTES F.Offset.BYTES F.Value.BYTES result ≡ entries (sets_of F.Set.BYTES F.Offset.BYTES F.Value.BYTES self.now) }
     {
         SetsIter { sets: *self, at: 0 }
     }
 
     /// The rules of set `index`: none where it is null or unreadable, or past the last set.
     fn rules(&self, index: u32) -> Option<Rules<'a, F>>
-        ensures { rules_in (sets_of F.Set.bytes F.Offset.bytes F.Value.bytes self.now) index ≡ tried_of F.Offset.bytes F.Value.bytes result }
+        ensures { rules_in (sets_of F.Set.BYTES F.Offset.BYTES F.Value.BYTES self.now) index ≡ tried_of F.Offset.BYTES F.Value.BYTES result }
     {
         if index >= self.len() {
             return None;
@@ -78,7 +78,7 @@ impl<'a, F: RuleWidths> RuleSets<'a, F> {
         glyphs: &[u32],
         zero_context: bool,
     ) -> bool
-        ensures { result ≡ set_applies (I.ValueMatch.means input.now) zero_context glyphs.now (rules_in (sets_of F.Set.bytes F.Offset.bytes F.Value.bytes self.now) index) }
+        ensures { result ≡ set_applies (I.ValueMatch.means input.now) zero_context glyphs.now (rules_in (sets_of F.Set.BYTES F.Offset.BYTES F.Value.BYTES self.now) index) }
     {
         self.rules(index)
             .is_some_and(|rules| rules.apply(input, glyphs, zero_context))
@@ -92,7 +92,7 @@ impl<'a, F: RuleWidths> RuleSets<'a, F> {
         run: &[u32],
         place: usize,
     ) -> Option<Found>
-        ensures { option_map found_of result ≡ set_finds (matchers_of B.ValueMatch.means I.ValueMatch.means L.ValueMatch.means matchers.now) run.now place (rules_in (sets_of F.Set.bytes F.Offset.bytes F.Value.bytes self.now) index) }
+        ensures { option_map found_of result ≡ set_finds (matchers_of B.ValueMatch.means I.ValueMatch.means L.ValueMatch.means matchers.now) run.now place (rules_in (sets_of F.Set.BYTES F.Offset.BYTES F.Value.BYTES self.now) index) }
     {
         self.rules(index)?.find(matchers, run, place)
     }

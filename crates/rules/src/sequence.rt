@@ -14,17 +14,15 @@ pub(crate) fn matches_from<W: Width, M: ValueMatch>(
     run: &[u32],
     place: usize,
 ) -> bool
-    ensures { result ≡ matches_from (M.ValueMatch.means matcher.now) (uints_of W.Width.bytes values.now) run.now place }
+    requires { place ≤ length run.now }
+    ensures { result ≡ matches_from (M.ValueMatch.means matcher.now) (uints_of W.Width.BYTES values.now) run.now place }
 {
-    if place > run.len() || run.len() - place < values.count as usize {
-        return false;
-    }
-    for i in 0..values.count {
-        if !matcher.matches(values.get::<W>(i), run[place + i as usize]) {
-            return false;
-        }
-    }
-    true
+    let glyphs = &run[place..];
+    glyphs.len() >= values.count as usize
+        && values
+            .iter::<W>()
+            .zip(glyphs)
+            .all(|(value, glyph)| matcher.matches(value, *glyph))
 }
 
 /// Whether value 0 matches the glyph just before `place`, value 1 the one before that, and so outwards.
@@ -35,15 +33,12 @@ pub(crate) fn matches_before<W: Width, M: ValueMatch>(
     place: usize,
 ) -> bool
     requires { place ≤ length run.now }
-    ensures { result ≡ matches_before (M.ValueMatch.means matcher.now) (uints_of W.Width.bytes values.now) run.now place }
+    ensures { result ≡ matches_before (M.ValueMatch.means matcher.now) (uints_of W.Width.BYTES values.now) run.now place }
 {
-    if place < values.count as usize {
-        return false;
-    }
-    for i in 0..values.count {
-        if !matcher.matches(values.get::<W>(i), run[place - 1 - i as usize]) {
-            return false;
-        }
-    }
-    true
+    let glyphs = &run[..place];
+    glyphs.len() >= values.count as usize
+        && values
+            .iter::<W>()
+            .zip(glyphs.iter().rev())
+            .all(|(value, glyph)| matcher.matches(value, *glyph))
 }

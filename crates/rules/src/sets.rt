@@ -37,14 +37,14 @@ impl<'a, F: RuleWidths> Rules<'a, F> {
 
     /// The bytes of rule `index`, from its offset to the set's end: none where the offset passes it.
     pub fn rule(&self, index: u32) -> Option<&'a [u8]>
-        ensures { option_map (λ x. x.now) result ≡ (parts_of F.Offset.bytes self.now).entry index }
+        ensures { option_map (λ x. x.now) result ≡ (parts_of F.Offset.BYTES self.now).entry index }
     {
         tail(self.bytes, self.offsets.get::<F::Offset>(index) as usize)
     }
 
     /// The bytes of the rules in order.
     pub fn parts(&self) -> PartsIter<'a, F>
-        ensures { parts_left F.Offset.bytes result ≡ entries (parts_of F.Offset.bytes self.now) }
+        ensures { parts_left F.Offset.BYTES result ≡ entries (parts_of F.Offset.BYTES self.now) }
     {
         PartsIter {
             rules: *self,
@@ -54,7 +54,7 @@ impl<'a, F: RuleWidths> Rules<'a, F> {
 
     /// The rules in order, each readable or not.
     pub fn iter(&self) -> RulesIter<'a, F>
-        ensures { rules_left F.Offset.bytes F.Value.bytes result ≡ entries (rules_of F.Offset.bytes F.Value.bytes self.now) }
+        ensures { rules_left F.Offset.BYTES F.Value.BYTES result ≡ entries (rules_of F.Offset.BYTES F.Value.BYTES self.now) }
     {
         RulesIter {
             rules: *self,
@@ -64,7 +64,7 @@ impl<'a, F: RuleWidths> Rules<'a, F> {
 
     /// Rule `index`; none where it is unreadable.
     pub fn parsed(&self, index: u32) -> Option<ParsedRule<'a, F::Value>>
-        ensures { option_map (rule_of F.Value.bytes) result ≡ (rules_of F.Offset.bytes F.Value.bytes self.now).entry index }
+        ensures { option_map (rule_of F.Value.BYTES) result ≡ (rules_of F.Offset.BYTES F.Value.BYTES self.now).entry index }
     {
         ParsedRule::parse(self.rule(index)?, self.layout)
     }
@@ -81,8 +81,8 @@ pub enum RuleSet<'a, F> {
 impl<'a, F: RuleWidths> RuleSet<'a, F> {
     /// The set at `offset` of the subtable's bytes, its rules laid out so.
     pub fn at(bytes: &'a [u8], layout: RuleLayout, offset: u32) -> RuleSet<'a, F>
-        ensures parts { set_of F.Offset.bytes result ≡ rule_set_at F.Offset.bytes bytes.now offset }
-        ensures rules { rule_set_of F.Offset.bytes F.Value.bytes result ≡ read_set (rule_in layout.chained F.Value.bytes layout.whole) (rule_set_at F.Offset.bytes bytes.now offset) }
+        ensures parts { set_of F.Offset.BYTES result ≡ rule_set_at F.Offset.BYTES bytes.now offset }
+        ensures rules { rule_set_of F.Offset.BYTES F.Value.BYTES result ≡ read_set (rule_in layout.chained F.Value.BYTES layout.whole) (rule_set_at F.Offset.BYTES bytes.now offset) }
     {
         if offset == 0 {
             return RuleSet::Null;
@@ -92,11 +92,11 @@ impl<'a, F: RuleWidths> RuleSet<'a, F> {
 
     /// The set that `bytes` begin with: a count, and an offset for each rule.
     fn read(bytes: &'a [u8], layout: RuleLayout) -> RuleSet<'a, F>
-        ensures parts { set_of F.Offset.bytes result ≡ rule_set_in F.Offset.bytes (Some bytes.now) }
-        ensures rules { rule_set_of F.Offset.bytes F.Value.bytes result ≡ read_set (rule_in layout.chained F.Value.bytes layout.whole) (rule_set_in F.Offset.bytes (Some bytes.now)) }
+        ensures parts { set_of F.Offset.BYTES result ≡ rule_set_in F.Offset.BYTES (Some bytes.now) }
+        ensures rules { rule_set_of F.Offset.BYTES F.Value.BYTES result ≡ read_set (rule_in layout.chained F.Value.BYTES layout.whole) (rule_set_in F.Offset.BYTES (Some bytes.now)) }
     {
         let count = number::<Two>(bytes, 0);
-        if COUNT_BYTES as usize + F::Offset::width() * count as usize > bytes.len() {
+        if COUNT_BYTES as usize + F::Offset::BYTES * count as usize > bytes.len() {
             return RuleSet::Unreadable;
         }
         RuleSet::Rules(Rules {

@@ -36,7 +36,7 @@ impl<'a, W: Width> ParsedRule<'a, W> {
         run: &[u32],
         place: usize,
     ) -> Option<Found>
-        ensures { option_map found_of result ≡ rule_finds (matchers_of B.ValueMatch.means I.ValueMatch.means L.ValueMatch.means matchers.now) run.now place (Some (rule_of W.Width.bytes self.now)) }
+        ensures { option_map found_of result ≡ rule_finds (matchers_of B.ValueMatch.means I.ValueMatch.means L.ValueMatch.means matchers.now) run.now place (Some (rule_of W.Width.BYTES self.now)) }
     {
         self.matches(matchers, run, place).then_some(Found {
             length: self.input.count as usize + 1,
@@ -53,7 +53,7 @@ impl<'a, W: Width> ParsedRule<'a, W> {
         run: &[u32],
         place: usize,
     ) -> bool
-        ensures { result ≡ rule_matches (matchers_of B.ValueMatch.means I.ValueMatch.means L.ValueMatch.means matchers.now) run.now place (rule_of W.Width.bytes self.now) }
+        ensures { result ≡ rule_matches (matchers_of B.ValueMatch.means I.ValueMatch.means L.ValueMatch.means matchers.now) run.now place (rule_of W.Width.BYTES self.now) }
     {
         let inputs = self.input.count as usize;
         if place >= run.len() || run.len() - place <= inputs {
@@ -78,7 +78,7 @@ impl<'a, F: RuleWidths> Rules<'a, F> {
         run: &[u32],
         place: usize,
     ) -> Option<Found>
-        ensures { option_map found_of result ≡ set_finds (matchers_of B.ValueMatch.means I.ValueMatch.means L.ValueMatch.means matchers.now) run.now place (rules_of F.Offset.bytes F.Value.bytes self.now) }
+        ensures { option_map found_of result ≡ set_finds (matchers_of B.ValueMatch.means I.ValueMatch.means L.ValueMatch.means matchers.now) run.now place (rules_of F.Offset.BYTES F.Value.BYTES self.now) }
     {
         self.iter().find_map(|rule| rule.and_then(|rule| rule.find(matchers, run, place)))
     }

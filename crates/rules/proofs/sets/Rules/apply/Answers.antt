@@ -12,8 +12,8 @@ use Rattle.rules.proofs.sets.Rules.apply.Goals as goal
 pub returns : goal.returns
 returns g c =
     let test = rule_applies (g.I.ValueMatch.means c.args.input.now) c.args.zero_context c.args.glyphs.now in
-    let all = rules_of g.F.Offset.Width.bytes g.F.Value.Width.bytes c.args.self.now in
+    let all = rules_of g.F.Offset.Width.BYTES g.F.Value.Width.BYTES c.args.self.now in
     any_from_yields_List test c.any.new.self _ _ c.any.ensures.ran
-    (YieldsList-from_first (option_map (rule_of g.F.Value.Width.bytes)) (rules_left g.F.Offset.Width.bytes g.F.Value.Width.bytes) (entries all) c.iter.ensures)
+    (YieldsList-from_first (option_map (rule_of g.F.Value.Width.BYTES)) (rules_left g.F.Offset.Width.BYTES g.F.Value.Width.BYTES) (entries all) c.iter.ensures)
     (λ x b q k. search (rules, tests))
     ∙ any_entries test all
