@@ -1,30 +1,136 @@
--- The turns of loops that walk, and of loops that only add.
+-- The turns of loops over the entries of an array that walk, and of those that only add.
 -- Assumes nothing.
-use Rattle.std.proofs.Common.{◌≡◌, ℕ, ◌+◌, ◌<◌, Bool, true, List, Ok, Result, sym, ap, ◌∙◌, subst, add-one}
-use Rattle.opentype.specs.Carried.{Outcome, Ended, carried}
-use Rattle.opentype.specs.Draws.{Allowance}
-use Rattle.opentype.specs.Walks.{Step, walk_below, fold_below}
+use Rattle.std.proofs.Common.{◌≡◌, ℕ, zero, suc, refl, ◌+◌, ◌-◌, ◌<◌, List, map, [], ◌∷◌, ◌++◌, length, Some, None, Option, Ok, Err, Result, IsErrAnd, sym, ap, ◌∙◌, subst, add-one, arith}
+use Rattle.std.specs.Iterator.{Yields, YieldsFirst, YieldsFirstBy}
+use Rattle.std.specs.List.{range_with_len, zip}
+use Rattle.std.proofs.iter.Yields.{nat_range_steps}
+use Rattle.std.specs.declared.iter.Zip.{Zip}
+use Rattle.std.specs.declared.ops.Range.{Range}
+use Rattle.std.specs.Iterator.Adapters.{zip_first, zip_second}
+use Rattle.std.proofs.lemmas.Iterator.{YieldsList, YieldsList-from_range, YieldsList-from_zip, zips}
+use Rattle.std.proofs.lemmas.Iterator.Consumers.{YieldsList-from_first, YieldsList-turn, YieldsList-end}
+use Rattle.std.proofs.lemmas.List.{length_push}
+use Rattle.std.proofs.lemmas.List.FromFn.{length-map-range_with_len, get_or-map-range_with_len}
+use Rattle.std.proofs.lemmas.Result.{err_from_is_err_and}
+use Rattle.opentype.specs.Bytes.{Array}
+use Rattle.opentype.specs.Carried.{Outcome, Ended}
+use Rattle.opentype.specs.Walks.{Step, stopped, walk, walk_below, fold_below}
 use Rattle.opentype.proofs.Carrying.{turn, ends}
-use Rattle.digest.specs.declared.budget.Exhausted.{Exhausted}
-use Rattle.adding.specs.Walked.{ending_of, outcome}
+use Rattle.digest.specs.Allowances.{allowance_of}
+use Rattle.readers.specs.Views.{entries}
+use Rattle.adding.specs.Walked.{ending_of, CarriedOut}
+use Rattle.adding.specs.declared.gathering.Gathering.{Gathering}
+use Rattle.adding.specs.declared.stop.Stop.{Stop}
+use Rattle.adding.specs.declared.stop.Stop.TheVariants.{Exhausted, AnyGlyph}
 
--- ---- a turn of a loop that walks
+-- ---- one more step of a walk
 
-module _ (step : ℕ → List ℕ → Step) (start : List ℕ) (left : Allowance) (i : ℕ) (masks : List ℕ) (now : Allowance)
-    (inv : outcome now (Ok true) masks ≡ carried (walk_below step i start) left) where
+-- a part that stops the walk at once
+pub stops : (here : Gathering) → CarriedOut (λ masks. stopped) here here (Err AnyGlyph)
+stops here = record { answer = refl; same_allowance = refl }
+
+ended : (stop : Stop) (m : List ℕ) → Ended (ending_of (Err stop) m)
+ended Exhausted m = tt
+ended AnyGlyph m = tt
+
+module _ (step : ℕ → List ℕ → Step) {start here : Gathering} (i : ℕ) (before : CarriedOut (walk_below step i) start here (Ok tt))
+    {next : Gathering} where
   -- it goes on
-  pub walks_on : (after : Allowance) (m : List ℕ) → outcome after (Ok true) m ≡ carried (step i masks) now
-      → outcome after (Ok true) m ≡ carried (walk_below step (i + 1) start) left
-  walks_on after m e = e ∙ sym (turn step start left i masks now inv)
+  goes_on : CarriedOut (step i) here next (Ok tt) → CarriedOut (walk_below step (i + 1)) start next (Ok tt)
+  goes_on now = record {
+    answer =
+        now.answer ∙ sym (turn step start.digest.masks (allowance_of start.budget.now) i here.digest.masks (allowance_of here.budget.now) before.answer);
+    same_allowance = now.same_allowance ∙ before.same_allowance;
+  }
 
-  -- it ends, and with it the walk
-  pub walks_out : (n : ℕ) → i < n → (after : Allowance) (r : Result Bool Exhausted) (m : List ℕ) → Ended (ending_of r m)
-      → outcome after r m ≡ carried (step i masks) now → outcome after r m ≡ carried (walk_below step n start) left
-  walks_out n l after r m h e =
-      e ∙ sym (ends step start left i masks now n l inv (subst (λ (o : Outcome). Ended o.ending) e h))
+  -- it stops, and with it the walk
+  goes_out : (n : ℕ) → i < n → (stop : Stop) (r : Result (Unit {0}) Stop) → CarriedOut (step i) here next (Err stop)
+      → IsErrAnd r (λ e. e ≡ stop) → CarriedOut (walk_below step n) start next r
+  goes_out n l stop r now out =
+      let p = err_from_is_err_and r out in
+      rw (p.1, p.2)
+      (record {
+        answer =
+            now.answer
+            ∙ sym
+            (ends step start.digest.masks (allowance_of start.budget.now) i here.digest.masks (allowance_of here.budget.now) n l before.answer
+            (subst (λ (o : Outcome). Ended o.ending) now.answer (ended stop next.digest.masks)));
+        same_allowance = now.same_allowance ∙ before.same_allowance;
+      })
 
--- ---- a turn of a loop that only adds
+-- ---- iterators that give the entries of an array
 
-pub adds_on : (f : ℕ → List ℕ → List ℕ) (n : ℕ) (start m m' : List ℕ)
-    → m ≡ fold_below f n start → m' ≡ f n m → m' ≡ fold_below f (n + 1) start
-adds_on f n start m m' inv e = rw add-one (e ∙ ap (f n) inv)
+pub record Gives {S A X : Type 0} (steps : S → Option A → S → Type 0) (shows : A → X) (s : S) (a : Array X) : Type 0 where
+  pub items : YieldsList steps shows s (entries a)
+
+-- one whose call gives the first of what is left, as it shows
+pub gives : {S A X : Type 0} (shows : A → X) (rest : S → List X) {s t : S} {a : Array X} → t ≡ s → rest s ≡ entries a
+    → Gives (YieldsFirstBy shows rest) shows t a
+gives shows rest {a = a} is all = record { items = YieldsList-from_first shows rest (entries a) (ap rest is ∙ all) }
+
+zip_entries : {X : Type 0} (f : ℕ → X) (a n : ℕ) → zip (range_with_len a n) (map f (range_with_len a n)) ≡ map (λ k. (k, f k)) (range_with_len a n)
+zip_entries f a zero = refl
+zip_entries f a (suc n) = ap (λ ps. (a, f a) ∷ ps) (zip_entries f (a + 1) n)
+
+-- one that is zipped with the numbers of the entries
+pub gives_numbered : {S X : Type 0} (rest : S → List X) {s t : Zip (Range ℕ) S} {r : Range ℕ} {i : S} {n : ℕ} {a : Array X} → t ≡ s
+    → zip_first s ≡ r → r ≡ record { start = 0; end = n } → n ≡ a.count → zip_second s ≡ i → rest i ≡ entries a
+    → Gives (zips nat_range_steps (YieldsFirst rest)) (λ p. p) t (record { count = a.count; entry = λ k. (k, a.entry k) })
+gives_numbered {S} {X} rest {a = a} is first range count second all =
+    rw (is)
+    (record {
+      items =
+          rw (← zip_entries a.entry 0 (a.count - 0))
+          (YieldsList-from_zip
+          (YieldsList-from_range 0 a.count (a.count - 0) (first ∙ range ∙ ap (λ (m : ℕ). record { start = 0; end = m }) count) (omega arith))
+          (YieldsList-from_first (λ (x : X). x) rest (entries a) (ap rest second ∙ all)));
+    })
+
+-- ---- a turn of a loop over the entries of an array, from a state in which the iterator has given `xs`
+
+module _ {S A X : Type 0} {steps : S → Option A → S → Type 0} {shows : A → X} {s : S} {a : Array X} (all : Gives steps shows s a)
+    (xs : List A) (t : S) (before : Yields steps s xs t) {r : Option A} (u : S) (now : steps t r u) where
+  -- the item shows the entry at the number of turns before it
+  item_is : (x : A) → r ≡ Some x → (length xs < a.count) × (shows x ≡ a.entry (length xs))
+  item_is x is =
+      let t = YieldsList-turn all.items xs t before r u x is now in
+      let within : length xs < a.count = omega (arith, length-map-range_with_len a.entry 0 (a.count - 0)) in
+      (within, t.1 ∙ get_or-map-range_with_len a.entry 0 (a.count - 0) (length xs) (length xs) (shows x) (omega arith) (omega arith))
+
+  -- there are as many turns as entries
+  all_taken : r ≡ None → length xs ≡ a.count
+  all_taken is =
+      let e = YieldsList-end all.items xs t before r u is now in
+      omega (arith, length-map-range_with_len a.entry 0 (a.count - 0))
+
+  -- ---- the loop only adds
+
+  module _ (add : X → List ℕ → List ℕ) (start m : List ℕ) (added : m ≡ fold_below (λ k. add (a.entry k)) (length xs) start) where
+    pub adds_on : (x : A) → r ≡ Some x → {m' : List ℕ} → m' ≡ add (shows x) m → m' ≡ fold_below (λ k. add (a.entry k)) (length (xs ++ x ∷ [])) start
+    adds_on x is {m'} e = rw (length_push, add-one) (e ∙ ap (λ (y : X). add y m) (item_is x is).1 ∙ ap (add (a.entry (length xs))) added)
+
+    pub adds_all : r ≡ None → m ≡ fold_below (λ k. add (a.entry k)) a.count start
+    adds_all is = subst (λ (k : ℕ). m ≡ fold_below (λ k. add (a.entry k)) k start) (all_taken is) added
+
+  -- ---- the loop walks
+
+  module _ (step : X → List ℕ → Step) {start here : Gathering} (walked : CarriedOut (walk_below (λ k. step (a.entry k)) (length xs)) start here (Ok tt))
+    where
+      -- it goes on
+      pub walks_on : (x : A) → r ≡ Some x → {next : Gathering} → CarriedOut (step (shows x)) here next (Ok tt)
+          → CarriedOut (walk_below (λ k. step (a.entry k)) (length (xs ++ x ∷ []))) start next (Ok tt)
+      walks_on x is {next} now =
+          let here : CarriedOut (step (a.entry (length xs))) here next (Ok tt) = subst (λ (y : X). CarriedOut (step y) here next (Ok tt)) (item_is x is).1 now in
+          rw length_push (goes_on (λ k. step (a.entry k)) (length xs) walked here)
+
+      -- it stops, and with it the walk
+      pub walks_out : (x : A) → r ≡ Some x → {next : Gathering} {stop : Stop} {answer : Result (Unit {0}) Stop} → CarriedOut (step (shows x)) here next (Err stop)
+          → IsErrAnd answer (λ e. e ≡ stop) → CarriedOut (walk step a) start next answer
+      walks_out x is {next} {stop} {answer} now out =
+          let i = item_is x is in
+          let here : CarriedOut (step (a.entry (length xs))) here next (Err stop) = subst (λ (y : X). CarriedOut (step y) here next (Err stop)) i.1 now in
+          goes_out (λ k. step (a.entry k)) (length xs) walked a.count i.0 stop answer here out
+
+      -- it ends
+      pub walks_all : r ≡ None → CarriedOut (walk step a) start here (Ok tt)
+      walks_all is = subst (λ (k : ℕ). CarriedOut (walk_below (λ k. step (a.entry k)) k) start here (Ok tt)) (all_taken is) walked

@@ -1,20 +1,30 @@
 -- What the calls of a walk answer.
 -- Assumes nothing.
-use Rattle.std.specs.Prelude.{ℕ, Bool, true, false, List, Ok, Err, Result}
-use Rattle.opentype.specs.Carried.{Ending, refused, halted, reached, Outcome}
+use Rattle.std.specs.Prelude.{◌≡◌, ℕ, List, Ok, Err, Result}
+use Rattle.opentype.specs.Carried.{Ending, refused, halted, reached, Outcome, carried}
 use Rattle.opentype.specs.Draws.{Allowance}
-use Rattle.digest.specs.declared.budget.Exhausted.{Exhausted}
+use Rattle.opentype.specs.Ranges.{Ranges}
+use Rattle.opentype.specs.Walks.{Step}
+use Rattle.digest.specs.Allowances.{allowance_of}
+use Rattle.tables.specs.declared.ranges.RangeRecord.{RangeRecord}
+use Rattle.adding.specs.declared.gathering.Gathering.{Gathering}
+use Rattle.adding.specs.declared.stop.Stop.{Stop}
+use Rattle.adding.specs.declared.stop.Stop.TheVariants.{Exhausted, AnyGlyph}
 
--- a call answers whether the walk goes on; the masks count where it does
-abbrev pub ending_of : Result Bool Exhausted → (masks : List ℕ) → Ending
-ending_of (Err e) masks = refused
-ending_of (Ok false) masks = halted
-ending_of (Ok true) masks = reached masks
+-- a call answers whether the walk goes on, and else why not; the masks count where it does
+abbrev pub ending_of : Result (Unit {0}) Stop → (masks : List ℕ) → Ending
+ending_of (Err Exhausted) masks = refused
+ending_of (Err AnyGlyph) masks = halted
+ending_of (Ok t) masks = reached masks
 
-abbrev pub outcome : (left : Allowance) → Result Bool Exhausted → (masks : List ℕ) → Outcome
+abbrev pub outcome : (left : Allowance) → Result (Unit {0}) Stop → (masks : List ℕ) → Outcome
 outcome left r masks = record { left = left; ending = ending_of r masks }
 
--- a call that never stops the walk, as one that answers whether it goes on
-abbrev pub onwards : Result (Unit {0}) Exhausted → Result Bool Exhausted
-onwards (Err e) = Err e
-onwards (Ok t) = Ok true
+-- a part of a walk was carried out: what it answered, and what was gathered before and after it
+pub record CarriedOut (step : List ℕ → Step) (before after : Gathering) (r : Result (Unit {0}) Stop) : Type 0 where
+  pub answer : outcome (allowance_of after.budget.now) r after.digest.masks ≡ carried (step before.digest.masks) (allowance_of before.budget.now)
+  pub same_allowance : after.budget.ghost_name ≡ before.budget.ghost_name
+
+-- the ranges of one record
+abbrev pub alone : RangeRecord → Ranges
+alone r = record { count = 1; start = λ _. r.start; end = λ _. r.end; value = λ _. r.value }

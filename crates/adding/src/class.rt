@@ -1,78 +1,86 @@
 //! Adding the glyphs of a class to a digest.
 ghost use Rattle.std.specs.Prelude.{◌≡◌};
-ghost use Rattle.opentype.specs.Carried.{carried};
 ghost use Rattle.opentype.specs.Filters.{add_ahead, add_class, add_entries, add_from, add_listed, add_range};
 ghost use Rattle.opentype.specs.Walks.{walk_below};
-ghost use Rattle.digest.specs.Allowances.{allowance_of};
 ghost use Rattle.readers.specs.Views.{uints_of};
 ghost use Rattle.tables.specs.Tables.{classes_of};
 ghost use Rattle.tables.specs.Views.{ranges_of};
-ghost use Rattle.adding.specs.Walked.{onwards, outcome};
+ghost use Rattle.adding.specs.Walked.{CarriedOut, alone};
 
-use digest::budget::{Budget, Exhausted};
+use crate::gathering::Gathering;
+use crate::stop::Stop;
 use digest::set_digest::SetDigest;
 use readers::uints::Uints;
 use readers::width::Two;
 use tables::class::ClassDef;
-use tables::ranges::RangeRecords;
+use tables::ranges::{RangeRecord, RangeRecords};
 use tables::search::Ranges;
 
 /// The largest glyph that an array adds.
 const LAST_GLYPH: u32 = 65_535;
 
-/// Adds the glyphs of a class. Class 0 has every glyph that the table does not list: all ones, without a draw.
-pub fn add_class(
-    table: &ClassDef,
-    class: u32,
-    digest: &mut SetDigest,
-    budget: &mut Budget,
-) -> Result<bool, Exhausted>
-    ensures carried { outcome (allowance_of budget.new) result digest.new.masks ≡ carried (add_class (classes_of table.now) class digest.old.masks) (allowance_of budget.old) }
-{
-    if class == 0 {
-        *digest = SetDigest::full();
-    } else {
-        add_listed(table, class, digest, budget)?;
-    }
-    Ok(true)
-}
-
-/// Adds the glyphs of a class of the lookahead. False where the table is missing: any glyph may then follow.
-pub fn add_lookahead_class(
-    table: &ClassDef,
-    class: u32,
-    digest: &mut SetDigest,
-    budget: &mut Budget,
-) -> Result<bool, Exhausted>
-    ensures carried { outcome (allowance_of budget.new) result digest.new.masks ≡ carried (add_ahead (classes_of table.now) class digest.old.masks) (allowance_of budget.old) }
-{
-    match table {
-        ClassDef::Missing => Ok(false),
-        _ => add_class(table, class, digest, budget),
-    }
-}
-
-/// Adds the glyphs that a table lists in a class other than 0: an array draws its length, ranges draw their count, and
-/// then each range of the class its length.
-fn add_listed(
-    table: &ClassDef,
-    class: u32,
-    digest: &mut SetDigest,
-    budget: &mut Budget,
-) -> Result<(), Exhausted>
-    ensures carried { outcome (allowance_of budget.new) (onwards result) digest.new.masks ≡ carried (add_listed (classes_of table.now) class digest.old.masks) (allowance_of budget.old) }
-{
-    match table {
-        ClassDef::Missing => Ok(()),
-        ClassDef::Array { start, classes } => {
-            budget.work(u64::from(classes.len()))?;
-            add_entries(*start, classes, class, digest);
-            Ok(())
+impl Gathering<'_> {
+    /// Adds the glyphs of a class. Class 0 has every glyph that the table does not list: all ones, without a draw.
+    pub fn add_class(&mut self, table: &ClassDef, class: u32) -> Result<(), Stop>
+        ensures { CarriedOut (add_class (classes_of table.now) class) self.old self.new result }
+    {
+        if class == 0 {
+            self.digest = SetDigest::full();
+            return Ok(());
         }
-        ClassDef::Ranges(ranges) => {
-            budget.work(u64::from(ranges.len()))?;
-            add_ranges(ranges, class, digest, budget)
+        self.add_listed(table, class)
+    }
+
+    /// Adds the glyphs of a class of the lookahead. Where the table is missing any glyph may follow.
+    pub fn add_lookahead_class(&mut self, table: &ClassDef, class: u32) -> Result<(), Stop>
+        ensures { CarriedOut (add_ahead (classes_of table.now) class) self.old self.new result }
+    {
+        if table.is_missing() {
+            return Err(Stop::AnyGlyph);
         }
+        self.add_class(table, class)
+    }
+
+    /// Adds the glyphs that a table lists in a class other than 0: an array draws its length, ranges draw their count,
+    /// and then each range of the class its length.
+    fn add_listed(&mut self, table: &ClassDef, class: u32) -> Result<(), Stop>
+        ensures { CarriedOut (add_listed (classes_of table.now) class) self.old self.new result }
+    {
+        match table {
+            ClassDef::Missing => Ok(()),
+            ClassDef::Array { start, classes } => {
+                self.budget.work(u64::from(classes.len()))?;
+                add_entries(*start, classes, class, &mut self.digest);
+                Ok(())
+            }
+            ClassDef::Ranges(ranges) => {
+                self.budget.work(u64::from(ranges.len()))?;
+                self.add_ranges(ranges, class)
+            }
+        }
+    }
+
+    /// Adds each range of a class.
+    fn add_ranges(&mut self, ranges: &RangeRecords, class: u32) -> Result<(), Stop>
+        ensures { let all = ranges_of ranges.now in CarriedOut (walk_below (add_range all class) all.count) self.old self.new result }
+    {
+        for range in ranges.iter() {
+            self.add_range(range, class)?;
+        }
+        Ok(())
+    }
+
+    /// Adds a range where it has the class: as a span, in place of one glyph after the other. A reversed range has no
+    /// glyph.
+    fn add_range(&mut self, range: RangeRecord, class: u32) -> Result<(), Stop>
+        ensures { CarriedOut (add_range (alone range) class 0) self.old self.new result }
+    {
+        if range.value == class {
+            self.budget
+                .work(u64::from(range.end.saturating_sub(range.start)) + 1)?;
+            add_glyphs_from(range.start, range.end, &mut self.digest);
+        }
+        Ok(())
     }
 }
 
@@ -80,45 +88,11 @@ fn add_listed(
 fn add_entries(start: u16, classes: &Uints, class: u32, digest: &mut SetDigest)
     ensures masks { digest.new.masks ≡ add_entries start class (uints_of 2 classes.now) digest.old.masks }
 {
-    for k in 0..classes.len() {
-        if classes.get::<Two>(k) == class {
+    for (k, entry) in (0..classes.len()).zip(classes.iter::<Two>()) {
+        if entry == class {
             digest.add(u32::from(start).saturating_add(k).min(LAST_GLYPH));
         }
     }
-}
-
-/// Adds each range of a class.
-fn add_ranges(
-    ranges: &RangeRecords,
-    class: u32,
-    digest: &mut SetDigest,
-    budget: &mut Budget,
-) -> Result<(), Exhausted>
-    ensures carried { let all = ranges_of ranges.now in outcome (allowance_of budget.new) (onwards result) digest.new.masks ≡ carried (walk_below (add_range all class) all.count digest.old.masks) (allowance_of budget.old) }
-{
-    for i in 0..ranges.len() {
-        add_range(ranges, i, class, digest, budget)?;
-    }
-    Ok(())
-}
-
-/// Adds range `index` where it has the class: as a span, in place of one glyph after the other. A reversed range has no
-/// glyph.
-fn add_range(
-    ranges: &RangeRecords,
-    index: u32,
-    class: u32,
-    digest: &mut SetDigest,
-    budget: &mut Budget,
-) -> Result<(), Exhausted>
-    ensures carried { outcome (allowance_of budget.new) (onwards result) digest.new.masks ≡ carried (add_range (ranges_of ranges.now) class index digest.old.masks) (allowance_of budget.old) }
-{
-    if ranges.value(index) == class {
-        let (start, end) = ranges.bounds(index);
-        budget.work(u64::from(end.saturating_sub(start)) + 1)?;
-        add_glyphs_from(start, end, digest);
-    }
-    Ok(())
 }
 
 /// Adds the glyphs from `start` to `end`: none where they are reversed.

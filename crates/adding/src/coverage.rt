@@ -1,17 +1,16 @@
 //! Adding the glyphs of a coverage table to a digest.
 ghost use Rattle.std.specs.Prelude.{◌≡◌};
-ghost use Rattle.opentype.specs.Carried.{carried};
 ghost use Rattle.opentype.specs.Filters.{add_coverage};
 ghost use Rattle.opentype.specs.Masks.{add_glyph};
 ghost use Rattle.opentype.specs.Spans.{add_span};
 ghost use Rattle.opentype.specs.Walks.{fold_below};
-ghost use Rattle.digest.specs.Allowances.{allowance_of};
 ghost use Rattle.readers.specs.Views.{uints_of};
 ghost use Rattle.tables.specs.Tables.{coverage_of};
 ghost use Rattle.tables.specs.Views.{ranges_of};
-ghost use Rattle.adding.specs.Walked.{outcome};
+ghost use Rattle.adding.specs.Walked.{CarriedOut};
 
-use digest::budget::{Budget, Exhausted};
+use crate::gathering::Gathering;
+use crate::stop::Stop;
 use digest::set_digest::SetDigest;
 use readers::uints::Uints;
 use readers::width::Two;
@@ -19,26 +18,23 @@ use tables::coverage::Coverage;
 use tables::ranges::RangeRecords;
 use tables::search::Ranges;
 
-/// Adds what a coverage table covers, after a draw of its entry count. False where the table is missing: any glyph may
-/// then follow.
-pub fn add_coverage(
-    coverage: &Coverage,
-    digest: &mut SetDigest,
-    budget: &mut Budget,
-) -> Result<bool, Exhausted>
-    ensures carried { outcome (allowance_of budget.new) result digest.new.masks ≡ carried (add_coverage (coverage_of coverage.now) digest.old.masks) (allowance_of budget.old) }
-{
-    match coverage {
-        Coverage::Missing => Ok(false),
-        Coverage::Glyphs(glyphs) => {
-            budget.work(u64::from(glyphs.len()))?;
-            add_glyphs(glyphs, digest);
-            Ok(true)
-        }
-        Coverage::Ranges(ranges) => {
-            budget.work(u64::from(ranges.len()))?;
-            add_spans(ranges, digest);
-            Ok(true)
+impl Gathering<'_> {
+    /// Adds what a coverage table covers, after a draw of its entry count. Where the table is missing any glyph may follow.
+    pub fn add_coverage(&mut self, coverage: &Coverage) -> Result<(), Stop>
+        ensures { CarriedOut (add_coverage (coverage_of coverage.now)) self.old self.new result }
+    {
+        match coverage {
+            Coverage::Missing => Err(Stop::AnyGlyph),
+            Coverage::Glyphs(glyphs) => {
+                self.budget.work(u64::from(glyphs.len()))?;
+                add_glyphs(glyphs, &mut self.digest);
+                Ok(())
+            }
+            Coverage::Ranges(ranges) => {
+                self.budget.work(u64::from(ranges.len()))?;
+                add_spans(ranges, &mut self.digest);
+                Ok(())
+            }
         }
     }
 }
@@ -47,8 +43,8 @@ pub fn add_coverage(
 fn add_glyphs(glyphs: &Uints, digest: &mut SetDigest)
     ensures masks { let all = uints_of 2 glyphs.now in digest.new.masks ≡ fold_below (λ k ms. add_glyph ms (all.entry k)) all.count digest.old.masks }
 {
-    for k in 0..glyphs.len() {
-        digest.add(glyphs.get::<Two>(k));
+    for glyph in glyphs.iter::<Two>() {
+        digest.add(glyph);
     }
 }
 
@@ -56,9 +52,8 @@ fn add_glyphs(glyphs: &Uints, digest: &mut SetDigest)
 fn add_spans(ranges: &RangeRecords, digest: &mut SetDigest)
     ensures masks { let all = ranges_of ranges.now in digest.new.masks ≡ fold_below (λ k ms. add_span ms (all.start k) (all.end k)) all.count digest.old.masks }
 {
-    for k in 0..ranges.len() {
-        let (start, end) = ranges.bounds(k);
+    for range in ranges.iter() {
         // The sums by which a span is added always fit.
-        let _ = digest.add_range(start, end);
+        let _ = digest.add_range(range.start, range.end);
     }
 }

@@ -1,47 +1,38 @@
 //! The walk over the rules of a subtable that gathers the glyphs which may follow the first one in a match.
 ghost use Rattle.std.specs.Prelude.{◌≡◌, ℕ, Some};
-ghost use Rattle.opentype.specs.Carried.{carried};
+ghost use Rattle.std.specs.Option.{option_map};
 ghost use Rattle.opentype.specs.Filters.{Adding, add_rule, add_set, add_sets};
 ghost use Rattle.opentype.specs.Masks.{none};
 ghost use Rattle.opentype.specs.Subtables.{glyph_adding};
 ghost use Rattle.opentype.specs.Walks.{walk};
 ghost use Rattle.digest.specs.Allowances.{allowance_of};
-ghost use Rattle.adding.specs.Walked.{outcome};
-ghost use Rattle.rules.specs.Views.{rule_of, rules_of, sets_of};
+ghost use Rattle.adding.specs.Walked.{CarriedOut};
+ghost use Rattle.rules.specs.Views.{rule_of, rule_set_of, rules_of, sets_of};
 ghost use Rattle.filters.specs.Seconds.{classes_adding, offsets_adding};
 ghost use Rattle.filters.specs.Digested.{Walked, gathered, masks_in};
 
-use adding::class::{add_class, add_lookahead_class};
-use adding::coverage::add_coverage;
+use adding::gathering::Gathering;
+use adding::stop::Stop;
 use digest::budget::{Budget, Exhausted};
 use digest::set_digest::SetDigest;
 use readers::width::Width;
-use rules::parsed::{ParsedRule, RuleLayout};
+use rules::parsed::ParsedRule;
 use rules::rule_sets::RuleSets;
 use rules::sets::{RuleSet, Rules};
+use rules::widths::RuleWidths;
 use tables::class::ClassDef;
 use tables::coverage::Coverage;
 
-/// How the first value behind a rule's first glyph is added: as an input, or as a lookahead. False where any glyph may
-/// match the value, so that the walk stops with all ones.
+/// How the first value behind a rule's first glyph is added: as an input, or as a lookahead. Where any glyph may match
+/// the value, the walk stops with all ones.
 pub trait AddSecond {
     ghost adding: { Self → Adding ℕ };
 
-    fn add_input(
-        &self,
-        value: u32,
-        digest: &mut SetDigest,
-        budget: &mut Budget,
-    ) -> Result<bool, Exhausted>
-        ensures { outcome (allowance_of budget.new) result digest.new.masks ≡ carried ((adding self.now).input value digest.old.masks) (allowance_of budget.old) };
+    fn add_input(&self, value: u32, gathering: &mut Gathering) -> Result<(), Stop>
+        ensures { CarriedOut ((adding self.now).input value) gathering.old gathering.new result };
 
-    fn add_lookahead(
-        &self,
-        value: u32,
-        digest: &mut SetDigest,
-        budget: &mut Budget,
-    ) -> Result<bool, Exhausted>
-        ensures { outcome (allowance_of budget.new) result digest.new.masks ≡ carried ((adding self.now).lookahead value digest.old.masks) (allowance_of budget.old) };
+    fn add_lookahead(&self, value: u32, gathering: &mut Gathering) -> Result<(), Stop>
+        ensures { CarriedOut ((adding self.now).lookahead value) gathering.old gathering.new result };
 }
 
 /// A value is a glyph.
@@ -51,24 +42,13 @@ pub struct SecondGlyph;
 impl AddSecond for SecondGlyph {
     ghost adding = { λ _. glyph_adding };
 
-    fn add_input(
-        &self,
-        value: u32,
-        digest: &mut SetDigest,
-        budget: &mut Budget,
-    ) -> Result<bool, Exhausted> {
-        digest.add(value);
-        Ok(true)
+    fn add_input(&self, value: u32, gathering: &mut Gathering) -> Result<(), Stop> {
+        gathering.digest.add(value);
+        Ok(())
     }
 
-    fn add_lookahead(
-        &self,
-        value: u32,
-        digest: &mut SetDigest,
-        budget: &mut Budget,
-    ) -> Result<bool, Exhausted> {
-        digest.add(value);
-        Ok(true)
+    fn add_lookahead(&self, value: u32, gathering: &mut Gathering) -> Result<(), Stop> {
+        self.add_input(value, gathering)
     }
 }
 
@@ -82,22 +62,12 @@ pub struct SecondClass<'a> {
 impl AddSecond for SecondClass<'_> {
     ghost adding = { λ s. classes_adding s.input s.lookahead };
 
-    fn add_input(
-        &self,
-        value: u32,
-        digest: &mut SetDigest,
-        budget: &mut Budget,
-    ) -> Result<bool, Exhausted> {
-        add_class(&self.input, value, digest, budget)
+    fn add_input(&self, value: u32, gathering: &mut Gathering) -> Result<(), Stop> {
+        gathering.add_class(&self.input, value)
     }
 
-    fn add_lookahead(
-        &self,
-        value: u32,
-        digest: &mut SetDigest,
-        budget: &mut Budget,
-    ) -> Result<bool, Exhausted> {
-        add_lookahead_class(&self.lookahead, value, digest, budget)
+    fn add_lookahead(&self, value: u32, gathering: &mut Gathering) -> Result<(), Stop> {
+        gathering.add_lookahead_class(&self.lookahead, value)
     }
 }
 
@@ -108,151 +78,120 @@ pub struct SecondCoverage<'a>(pub &'a [u8]);
 impl AddSecond for SecondCoverage<'_> {
     ghost adding = { λ s. offsets_adding s.0.now };
 
-    fn add_input(
-        &self,
-        value: u32,
-        digest: &mut SetDigest,
-        budget: &mut Budget,
-    ) -> Result<bool, Exhausted> {
-        add_coverage(&Coverage::at(self.0, value as usize), digest, budget)
+    fn add_input(&self, value: u32, gathering: &mut Gathering) -> Result<(), Stop> {
+        gathering.add_coverage(&Coverage::at(self.0, value as usize))
     }
 
-    fn add_lookahead(
-        &self,
-        value: u32,
-        digest: &mut SetDigest,
-        budget: &mut Budget,
-    ) -> Result<bool, Exhausted> {
-        add_coverage(&Coverage::at(self.0, value as usize), digest, budget)
+    fn add_lookahead(&self, value: u32, gathering: &mut Gathering) -> Result<(), Stop> {
+        self.add_input(value, gathering)
     }
 }
 
 /// The filter of a subtable of rule sets: the glyphs that may follow the first one in a match. All ones where a set or a
 /// rule is unreadable, or any glyph may follow in a rule.
-pub fn add_sets<S: Width, O: Width, W: Width, A: AddSecond>(
-    sets: &RuleSets,
+pub fn add_sets<F: RuleWidths, A: AddSecond>(
+    sets: &RuleSets<F>,
     adding: &A,
     budget: &mut Budget,
 ) -> Result<SetDigest, Exhausted>
-    ensures walked { Walked (add_sets (A.AddSecond.adding adding.now) (sets_of S.Width.bytes O.Width.bytes W.Width.bytes sets.now)) (allowance_of budget.old) (allowance_of budget.new) result }
+    ensures walked { Walked (add_sets (A.AddSecond.adding adding.now) (sets_of F.Set.BYTES F.Offset.BYTES F.Value.BYTES sets.now)) (allowance_of budget.old) (allowance_of budget.new) result }
 {
-    let mut digest = SetDigest::new();
     budget.work(u64::from(sets.len()))?;
-    let walked = add_each_set::<S, O, W, A>(sets, adding, &mut digest, budget);
-    settle(walked, digest)
+    let mut gathering = Gathering {
+        digest: SetDigest::new(),
+        budget,
+    };
+    let walked = add_each_set(sets, adding, &mut gathering);
+    settle(walked, gathering.digest)
 }
 
 /// The filter of one rule.
 pub fn add_rule_alone<W: Width, A: AddSecond>(
-    rule: &ParsedRule,
+    rule: &ParsedRule<W>,
     adding: &A,
     budget: &mut Budget,
 ) -> Result<SetDigest, Exhausted>
-    ensures walked { Walked (add_rule (A.AddSecond.adding adding.now) (Some (rule_of W.Width.bytes rule.now)) none) (allowance_of budget.old) (allowance_of budget.new) result }
+    ensures walked { Walked (add_rule (A.AddSecond.adding adding.now) (Some (rule_of W.Width.BYTES rule.now)) none) (allowance_of budget.old) (allowance_of budget.new) result }
 {
-    let mut digest = SetDigest::new();
-    let walked = add_rule::<W, A>(rule, adding, &mut digest, budget);
-    settle(walked, digest)
+    let mut gathering = Gathering {
+        digest: SetDigest::new(),
+        budget,
+    };
+    let walked = add_rule(rule, adding, &mut gathering);
+    settle(walked, gathering.digest)
 }
 
 /// What a walk comes to: all ones where it stopped.
-fn settle(walked: Result<bool, Exhausted>, digest: SetDigest) -> Result<SetDigest, Exhausted>
+fn settle(walked: Result<(), Stop>, digest: SetDigest) -> Result<SetDigest, Exhausted>
     ensures masks { masks_in result ≡ gathered walked digest.masks }
 {
-    if walked? {
-        Ok(digest)
-    } else {
-        Ok(SetDigest::full())
+    match walked {
+        Ok(()) => Ok(digest),
+        Err(Stop::AnyGlyph) => Ok(SetDigest::full()),
+        Err(Stop::Exhausted) => Err(Exhausted),
     }
 }
 
 /// Adds each set in turn.
-fn add_each_set<S: Width, O: Width, W: Width, A: AddSecond>(
-    sets: &RuleSets,
+fn add_each_set<F: RuleWidths, A: AddSecond>(
+    sets: &RuleSets<F>,
     adding: &A,
-    digest: &mut SetDigest,
-    budget: &mut Budget,
-) -> Result<bool, Exhausted>
-    ensures carried { let all = sets_of S.Width.bytes O.Width.bytes W.Width.bytes sets.now in outcome (allowance_of budget.new) result digest.new.masks ≡ carried (walk (add_set (A.AddSecond.adding adding.now)) all digest.old.masks) (allowance_of budget.old) }
+    gathering: &mut Gathering,
+) -> Result<(), Stop>
+    ensures { let all = sets_of F.Set.BYTES F.Offset.BYTES F.Value.BYTES sets.now in CarriedOut (walk (add_set (A.AddSecond.adding adding.now)) all) gathering.old gathering.new result }
 {
-    for i in 0..sets.len() {
-        if !add_set::<S, O, W, A>(sets, i, adding, digest, budget)? {
-            return Ok(false);
-        }
+    for set in sets.iter() {
+        add_set(set, adding, gathering)?;
     }
-    Ok(true)
+    Ok(())
 }
 
-/// Adds set `index`: draws its rule count, and adds each rule in turn. A null set is passed over, an unreadable one stops
-/// the walk.
-fn add_set<S: Width, O: Width, W: Width, A: AddSecond>(
-    sets: &RuleSets,
-    index: u32,
+/// Adds a set: draws its rule count, and adds each rule in turn. A null set is passed over, an unreadable one stops the
+/// walk.
+fn add_set<F: RuleWidths, A: AddSecond>(
+    set: RuleSet<F>,
     adding: &A,
-    digest: &mut SetDigest,
-    budget: &mut Budget,
-) -> Result<bool, Exhausted>
-    ensures carried { outcome (allowance_of budget.new) result digest.new.masks ≡ carried (add_set (A.AddSecond.adding adding.now) ((sets_of S.Width.bytes O.Width.bytes W.Width.bytes sets.now).entry index) digest.old.masks) (allowance_of budget.old) }
+    gathering: &mut Gathering,
+) -> Result<(), Stop>
+    ensures { CarriedOut (add_set (A.AddSecond.adding adding.now) (rule_set_of F.Offset.BYTES F.Value.BYTES set.entry)) gathering.old gathering.new result }
 {
-    match sets.set::<S, O>(index) {
-        RuleSet::Null => Ok(true),
-        RuleSet::Unreadable => Ok(false),
+    match set {
+        RuleSet::Null => Ok(()),
+        RuleSet::Unreadable => Err(Stop::AnyGlyph),
         RuleSet::Rules(rules) => {
-            budget.work(u64::from(rules.len()))?;
-            add_rules::<O, W, A>(&rules, sets.layout(), adding, digest, budget)
+            gathering.budget.work(u64::from(rules.len()))?;
+            add_rules(&rules, adding, gathering)
         }
     }
 }
 
-/// Adds each rule of a set in turn.
-fn add_rules<O: Width, W: Width, A: AddSecond>(
-    rules: &Rules,
-    layout: RuleLayout,
+/// Adds each rule of a set in turn. An unreadable one stops the walk.
+fn add_rules<F: RuleWidths, A: AddSecond>(
+    rules: &Rules<F>,
     adding: &A,
-    digest: &mut SetDigest,
-    budget: &mut Budget,
-) -> Result<bool, Exhausted>
-    ensures carried { outcome (allowance_of budget.new) result digest.new.masks ≡ carried (walk (add_rule (A.AddSecond.adding adding.now)) (rules_of O.Width.bytes W.Width.bytes layout rules.now) digest.old.masks) (allowance_of budget.old) }
+    gathering: &mut Gathering,
+) -> Result<(), Stop>
+    ensures { CarriedOut (walk (add_rule (A.AddSecond.adding adding.now)) (rules_of F.Offset.BYTES F.Value.BYTES rules.now)) gathering.old gathering.new result }
 {
-    for i in 0..rules.len() {
-        if !add_rule_at::<O, W, A>(rules, i, layout, adding, digest, budget)? {
-            return Ok(false);
-        }
+    for rule in rules.iter() {
+        add_rule(&rule.ok_or(Stop::AnyGlyph)?, adding, gathering)?;
     }
-    Ok(true)
-}
-
-/// Adds rule `index` of a set. An unreadable one stops the walk.
-fn add_rule_at<O: Width, W: Width, A: AddSecond>(
-    rules: &Rules,
-    index: u32,
-    layout: RuleLayout,
-    adding: &A,
-    digest: &mut SetDigest,
-    budget: &mut Budget,
-) -> Result<bool, Exhausted>
-    ensures carried { outcome (allowance_of budget.new) result digest.new.masks ≡ carried (add_rule (A.AddSecond.adding adding.now) ((rules_of O.Width.bytes W.Width.bytes layout rules.now).entry index) digest.old.masks) (allowance_of budget.old) }
-{
-    match rules.parsed::<O, W>(index, layout) {
-        Some(rule) => add_rule::<W, A>(&rule, adding, digest, budget),
-        None => Ok(false),
-    }
+    Ok(())
 }
 
 /// Adds a rule by its first input value, or else by its first lookahead value: any glyph may follow where it has neither.
 fn add_rule<W: Width, A: AddSecond>(
-    rule: &ParsedRule,
+    rule: &ParsedRule<W>,
     adding: &A,
-    digest: &mut SetDigest,
-    budget: &mut Budget,
-) -> Result<bool, Exhausted>
-    ensures carried { outcome (allowance_of budget.new) result digest.new.masks ≡ carried (add_rule (A.AddSecond.adding adding.now) (Some (rule_of W.Width.bytes rule.now)) digest.old.masks) (allowance_of budget.old) }
+    gathering: &mut Gathering,
+) -> Result<(), Stop>
+    ensures { CarriedOut (add_rule (A.AddSecond.adding adding.now) (Some (rule_of W.Width.BYTES rule.now))) gathering.old gathering.new result }
 {
     if !rule.input.is_empty() {
-        adding.add_input(rule.input.get::<W>(0), digest, budget)
+        adding.add_input(rule.input.get::<W>(0), gathering)
     } else if !rule.lookahead.is_empty() {
-        adding.add_lookahead(rule.lookahead.get::<W>(0), digest, budget)
+        adding.add_lookahead(rule.lookahead.get::<W>(0), gathering)
     } else {
-        Ok(false)
+        Err(Stop::AnyGlyph)
     }
 }

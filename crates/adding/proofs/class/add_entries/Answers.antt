@@ -1,19 +1,38 @@
-use Rattle.std.proofs.Common.{◌≡◌, ℕ, ◌+◌, min, cond, eqb, List, sym, ap, ◌∙◌, arith}
+use Rattle.std.proofs.Common.{◌≡◌, ℕ, ◌+◌, min, cond, eqb, List, refl, ap, ◌∙◌, arith}
 use Rattle.std.proofs.lemmas.Bool.{eq-eqb, ne_eqb}
 use Rattle.opentype.specs.Masks.{add_glyph}
-use Rattle.readers.specs.Views.{uints_of}
-use Rattle.adding.proofs.Turns.{adds_on}
-use Rattle.adding.proofs.class.add_entries.Goals.{then-get-class, else-get-class}
+use Rattle.readers.specs.Left.{left_of}
+use Rattle.adding.proofs.Turns.{gives_numbered, adds_on, adds_all}
 use Rattle.adding.proofs.class.add_entries.Goals as goal
+
+-- what an entry adds, at its number
+abbrev adds : (start class : ℕ) → ℕ × ℕ → List ℕ → List ℕ
+adds start class e masks = cond (eqb e.1 class) (add_glyph masks (min (start + e.0) 65535)) masks
+
+pub loop-k-preserved-then-entry-class : goal.loop-k-preserved-then-entry-class
+loop-k-preserved-then-entry-class c =
+    let m : c.min.result ≡ min (c.args.start + c.in-Some.k) 65535 = omega arith in
+    let y = gives_numbered (left_of 2) c.into_iter-k-iterator.ensures.into_iter_gives c.zip-k-items.ensures.first refl c.len.ensures
+    c.zip-k-items.ensures.second c.iter.ensures in
+    let t = eq-eqb c.in-Some.entry c.args.class c.if-entry-class.true in
+    adds_on y c.loop-k.yielded _ c.loop-k.yielded_by c.next.new.self c.next.ensures.steps
+    (adds c.args.start c.args.class) _ _ c.loop-k.invariant (c.in-Some.k, c.in-Some.entry) c.in-Some.is
+    (rw t (c.add.ensures.value ∙ ap (add_glyph c.loop-k.digest.masks) m))
 
 pub loop-k-preserved : goal.loop-k-preserved
 loop-k-preserved c =
-    let entry = (uints_of 2 c.args.classes.now).entry in
-    adds_on (λ (k : ℕ) (ms : List ℕ). cond (eqb (entry k) c.args.class) (add_glyph ms (min (c.args.start + k) 65535)) ms)
-    c.loop-k.k c.args.digest.now.masks c.loop-k.digest.masks c.if-get-class.digest.masks c.loop-k.invariant
-    (elim c.if-get-class.branch [
-      | then-get-class w ↦ let t = eq-eqb (entry c.loop-k.k) c.args.class (sym c.get.ensures.value ∙ w.if-get-class.true) in
-          let m : w.min.result ≡ min (c.args.start + c.loop-k.k) 65535 = omega arith in
-          rw t (ap (λ d. d.masks) w.digest-is ∙ w.add.ensures.value ∙ ap (add_glyph c.loop-k.digest.masks) m)
-      | else-get-class w ↦ let t = ne_eqb (entry c.loop-k.k) c.args.class (λ e. w.if-get-class.false (c.get.ensures.value ∙ e)) in rw t (ap (λ d. d.masks) w.digest-is)
-    ])
+    let y = gives_numbered (left_of 2) c.into_iter-k-iterator.ensures.into_iter_gives c.zip-k-items.ensures.first refl c.len.ensures
+    c.zip-k-items.ensures.second c.iter.ensures in
+    let t = ne_eqb c.in-Some.entry c.args.class c.if-entry-class.false in
+    adds_on y c.loop-k.yielded _ c.loop-k.yielded_by c.next.new.self c.next.ensures.steps
+    (adds c.args.start c.args.class) _ _ c.loop-k.invariant (c.in-Some.k, c.in-Some.entry) c.in-Some.is (rw t refl)
+
+pub returns : goal.returns
+returns c =
+    let y = gives_numbered (left_of 2) c.into_iter-k-iterator.ensures.into_iter_gives c.zip-k-items.ensures.first refl c.len.ensures
+    c.zip-k-items.ensures.second c.iter.ensures in
+    record {
+      masks =
+          adds_all y c.loop-k.yielded _ c.loop-k.yielded_by c.next.new.self c.next.ensures.steps
+          (adds c.args.start c.args.class) _ _ c.loop-k.invariant c.in-None.is;
+    }

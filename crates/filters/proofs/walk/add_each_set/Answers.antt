@@ -1,40 +1,31 @@
-use Rattle.std.proofs.Common.{◌<◌, false, Ok, Err, arith}
-use Rattle.std.proofs.lemmas.Result.{err_from_is_err_and}
 use Rattle.opentype.specs.Filters.{add_set}
-use Rattle.digest.specs.Allowances.{allowance_of}
-use Rattle.rules.specs.Views.{sets_of}
-use Rattle.adding.proofs.Turns.{walks_on, walks_out}
+use Rattle.rules.specs.Left.{sets_left}
+use Rattle.rules.specs.Views.{rule_set_of}
+use Rattle.adding.proofs.Turns.{gives, walks_on, walks_out, walks_all}
 use Rattle.filters.proofs.walk.add_each_set.Goals as goal
 
 pub returns-in_err-add_set : goal.returns-in_err-add_set
 returns-in_err-add_set g c =
-    let all = sets_of g.S.Width.bytes g.O.Width.bytes g.W.Width.bytes c.args.sets.now in
-    let add = add_set (g.A.AddSecond.adding c.args.adding.now) in
-    let p = err_from_is_err_and c.from_residual.result c.from_residual.ensures.1 in
-    let within : c.loop-i.i < all.count = omega arith in
-    record {
-      carried =
-          rw p.1
-          (walks_out (λ k. add (all.entry k)) c.args.digest.now.masks (allowance_of c.args.budget.now)
-          c.loop-i.i c.loop-i.digest.masks (allowance_of c.loop-i.budget) c.loop-i.invariant all.count within (allowance_of c.add_set.new.budget) (Err p.0) c.add_set.new.digest.masks tt
-          c.in_err-add_set.ensures.carried);
-    }
+    let set = g.F.Set.Width.BYTES in
+    let offset = g.F.Offset.Width.BYTES in
+    let value = g.F.Value.Width.BYTES in
+    walks_out (gives (rule_set_of offset value) (sets_left set offset value) c.into_iter-set-iterator.ensures.into_iter_gives c.iter-set-items.ensures) c.loop-set.yielded _ c.loop-set.yielded_by
+    c.next.new.self c.next.ensures.steps (add_set (g.A.AddSecond.adding c.args.adding.now)) c.loop-set.invariant c.in-Some.set c.in-Some.is
+    c.in_err-add_set.ensures c.from_residual.ensures.1
 
-pub returns-then-not-branch : goal.returns-then-not-branch
-returns-then-not-branch g c =
-    let all = sets_of g.S.Width.bytes g.O.Width.bytes g.W.Width.bytes c.args.sets.now in
-    let add = add_set (g.A.AddSecond.adding c.args.adding.now) in
-    let within : c.loop-i.i < all.count = omega arith in
-    record {
-      carried =
-          walks_out (λ k. add (all.entry k)) c.args.digest.now.masks (allowance_of c.args.budget.now)
-          c.loop-i.i c.loop-i.digest.masks (allowance_of c.loop-i.budget) c.loop-i.invariant all.count within (allowance_of c.add_set.new.budget) (Ok false) c.add_set.new.digest.masks tt
-          (rw c.if-not-branch.true at c.in_ok-add_set.ensures.carried);
-    }
+pub loop-set-preserved : goal.loop-set-preserved
+loop-set-preserved g c =
+    let set = g.F.Set.Width.BYTES in
+    let offset = g.F.Offset.Width.BYTES in
+    let value = g.F.Value.Width.BYTES in
+    walks_on (gives (rule_set_of offset value) (sets_left set offset value) c.into_iter-set-iterator.ensures.into_iter_gives c.iter-set-items.ensures) c.loop-set.yielded _ c.loop-set.yielded_by
+    c.next.new.self c.next.ensures.steps (add_set (g.A.AddSecond.adding c.args.adding.now)) c.loop-set.invariant c.in-Some.set c.in-Some.is
+    c.in_ok-add_set.ensures
 
-pub loop-i-preserved : goal.loop-i-preserved
-loop-i-preserved g c =
-    let all = sets_of g.S.Width.bytes g.O.Width.bytes g.W.Width.bytes c.args.sets.now in
-    walks_on (λ k. add_set (g.A.AddSecond.adding c.args.adding.now) (all.entry k)) c.args.digest.now.masks (allowance_of c.args.budget.now)
-    c.loop-i.i c.loop-i.digest.masks (allowance_of c.loop-i.budget) c.loop-i.invariant (allowance_of c.add_set.new.budget) c.add_set.new.digest.masks
-    (rw c.if-not-branch.false at c.in_ok-add_set.ensures.carried)
+pub returns : goal.returns
+returns g c =
+    let set = g.F.Set.Width.BYTES in
+    let offset = g.F.Offset.Width.BYTES in
+    let value = g.F.Value.Width.BYTES in
+    walks_all (gives (rule_set_of offset value) (sets_left set offset value) c.into_iter-set-iterator.ensures.into_iter_gives c.iter-set-items.ensures) c.loop-set.yielded _ c.loop-set.yielded_by
+    c.next.new.self c.next.ensures.steps (add_set (g.A.AddSecond.adding c.args.adding.now)) c.loop-set.invariant c.in-None.is

@@ -1,15 +1,12 @@
-use Rattle.std.proofs.Common.{◌≡◌, ℕ, true, Ok}
-use Rattle.opentype.specs.Carried.{carried}
+use Rattle.std.proofs.Common.{ℕ, length, Ok}
 use Rattle.opentype.specs.Filters.{add_set}
 use Rattle.opentype.specs.Walks.{walk_below}
-use Rattle.digest.specs.Allowances.{allowance_of}
 use Rattle.rules.specs.Views.{sets_of}
-use Rattle.adding.specs.Walked.{outcome}
+use Rattle.adding.specs.Walked.{CarriedOut}
 use Rattle.filters.proofs.walk.add_each_set.Given as goal
 
--- the sets before i are walked
-abbrev pub invariant-loop-i : goal.invariant-loop-i
-invariant-loop-i g l =
-    outcome (allowance_of l.budget) (Ok true) l.digest.masks
-    ≡ carried (walk_below (λ (k : ℕ). add_set (g.A.AddSecond.adding l.adding) ((sets_of g.S.Width.bytes g.O.Width.bytes g.W.Width.bytes l.sets).entry k)) l.i l.initial.digest.masks)
-    (allowance_of l.initial.budget)
+-- the sets so far are walked
+abbrev pub invariant-loop-set : goal.invariant-loop-set
+invariant-loop-set g l =
+    let all = sets_of g.F.Set.Width.BYTES g.F.Offset.Width.BYTES g.F.Value.Width.BYTES l.sets in
+    CarriedOut (walk_below (λ (k : ℕ). add_set (g.A.AddSecond.adding l.adding) (all.entry k)) (length l.yielded)) l.initial.gathering l.gathering (Ok tt)

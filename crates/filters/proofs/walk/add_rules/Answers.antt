@@ -1,38 +1,42 @@
-use Rattle.std.proofs.Common.{◌<◌, false, Ok, Err, arith}
-use Rattle.std.proofs.lemmas.Result.{err_from_is_err_and}
+use Rattle.std.proofs.Common.{◌≡◌}
+use Rattle.std.specs.Option.{option_map}
 use Rattle.opentype.specs.Filters.{add_rule}
-use Rattle.digest.specs.Allowances.{allowance_of}
-use Rattle.rules.specs.Views.{rules_of}
-use Rattle.adding.proofs.Turns.{walks_on, walks_out}
+use Rattle.rules.specs.Left.{rules_left}
+use Rattle.rules.specs.Views.{rule_of}
+use Rattle.adding.specs.declared.stop.Stop.TheVariants.{AnyGlyph}
+use Rattle.adding.proofs.Turns.{gives, stops, walks_on, walks_out, walks_all}
 use Rattle.filters.proofs.walk.add_rules.Goals as goal
 
-pub returns-in_err-add_rule_at : goal.returns-in_err-add_rule_at
-returns-in_err-add_rule_at g c =
-    let all = rules_of g.O.Width.bytes g.W.Width.bytes c.args.layout c.args.rules.now in
-    let p = err_from_is_err_and c.from_residual.result c.from_residual.ensures.1 in
-    let within : c.loop-i.i < all.count = omega arith in
-    record {
-      carried =
-          rw p.1
-          (walks_out (λ k. add_rule (g.A.AddSecond.adding c.args.adding.now) (all.entry k)) c.args.digest.now.masks (allowance_of c.args.budget.now)
-          c.loop-i.i c.loop-i.digest.masks (allowance_of c.loop-i.budget) c.loop-i.invariant all.count within (allowance_of c.add_rule_at.new.budget) (Err p.0) c.add_rule_at.new.digest.masks tt
-          c.in_err-add_rule_at.ensures.carried);
-    }
+pub returns-in_err-ok_or : goal.returns-in_err-ok_or
+returns-in_err-ok_or g c =
+    let offset = g.F.Offset.Width.BYTES in
+    let value = g.F.Value.Width.BYTES in
+    let e = c.in_err-ok_or.ensures in
+    let v = rw e.ok_part at e.value in
+    let stop : c.in_err-ok_or.field-0.0 ≡ AnyGlyph = cc v in
+    walks_out (gives (option_map (rule_of value)) (rules_left offset value) c.into_iter-rule-iterator.ensures.into_iter_gives c.iter-rule-items.ensures) c.loop-rule.yielded _ c.loop-rule.yielded_by
+    c.next.new.self c.next.ensures.steps (add_rule (g.A.AddSecond.adding c.args.adding.now)) c.loop-rule.invariant c.in-Some.rule c.in-Some.is
+    (rw (e.ok_part, stop) (stops c.loop-rule.gathering)) c.from_residual.ensures.1
 
-pub returns-then-not-branch : goal.returns-then-not-branch
-returns-then-not-branch g c =
-    let all = rules_of g.O.Width.bytes g.W.Width.bytes c.args.layout c.args.rules.now in
-    let within : c.loop-i.i < all.count = omega arith in
-    record {
-      carried =
-          walks_out (λ k. add_rule (g.A.AddSecond.adding c.args.adding.now) (all.entry k)) c.args.digest.now.masks (allowance_of c.args.budget.now)
-          c.loop-i.i c.loop-i.digest.masks (allowance_of c.loop-i.budget) c.loop-i.invariant all.count within (allowance_of c.add_rule_at.new.budget) (Ok false) c.add_rule_at.new.digest.masks tt
-          (rw c.if-not-branch.true at c.in_ok-add_rule_at.ensures.carried);
-    }
+pub returns-in_err-add_rule : goal.returns-in_err-add_rule
+returns-in_err-add_rule g c =
+    let offset = g.F.Offset.Width.BYTES in
+    let value = g.F.Value.Width.BYTES in
+    walks_out (gives (option_map (rule_of value)) (rules_left offset value) c.into_iter-rule-iterator.ensures.into_iter_gives c.iter-rule-items.ensures) c.loop-rule.yielded _ c.loop-rule.yielded_by
+    c.next.new.self c.next.ensures.steps (add_rule (g.A.AddSecond.adding c.args.adding.now)) c.loop-rule.invariant c.in-Some.rule c.in-Some.is
+    (rw c.in_ok-ok_or.ensures.ok_part c.in_err-add_rule.ensures) c.from_residual-in_err-add_rule.ensures.1
 
-pub loop-i-preserved : goal.loop-i-preserved
-loop-i-preserved g c =
-    let all = rules_of g.O.Width.bytes g.W.Width.bytes c.args.layout c.args.rules.now in
-    walks_on (λ k. add_rule (g.A.AddSecond.adding c.args.adding.now) (all.entry k)) c.args.digest.now.masks (allowance_of c.args.budget.now)
-    c.loop-i.i c.loop-i.digest.masks (allowance_of c.loop-i.budget) c.loop-i.invariant (allowance_of c.add_rule_at.new.budget) c.add_rule_at.new.digest.masks
-    (rw c.if-not-branch.false at c.in_ok-add_rule_at.ensures.carried)
+pub loop-rule-preserved : goal.loop-rule-preserved
+loop-rule-preserved g c =
+    let offset = g.F.Offset.Width.BYTES in
+    let value = g.F.Value.Width.BYTES in
+    walks_on (gives (option_map (rule_of value)) (rules_left offset value) c.into_iter-rule-iterator.ensures.into_iter_gives c.iter-rule-items.ensures) c.loop-rule.yielded _ c.loop-rule.yielded_by
+    c.next.new.self c.next.ensures.steps (add_rule (g.A.AddSecond.adding c.args.adding.now)) c.loop-rule.invariant c.in-Some.rule c.in-Some.is
+    (rw c.in_ok-ok_or.ensures.ok_part c.in_ok-add_rule.ensures)
+
+pub returns : goal.returns
+returns g c =
+    let offset = g.F.Offset.Width.BYTES in
+    let value = g.F.Value.Width.BYTES in
+    walks_all (gives (option_map (rule_of value)) (rules_left offset value) c.into_iter-rule-iterator.ensures.into_iter_gives c.iter-rule-items.ensures) c.loop-rule.yielded _ c.loop-rule.yielded_by
+    c.next.new.self c.next.ensures.steps (add_rule (g.A.AddSecond.adding c.args.adding.now)) c.loop-rule.invariant c.in-None.is

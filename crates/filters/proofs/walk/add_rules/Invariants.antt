@@ -1,15 +1,12 @@
-use Rattle.std.proofs.Common.{◌≡◌, ℕ, true, Ok}
-use Rattle.opentype.specs.Carried.{carried}
+use Rattle.std.proofs.Common.{ℕ, length, Ok}
 use Rattle.opentype.specs.Filters.{add_rule}
 use Rattle.opentype.specs.Walks.{walk_below}
-use Rattle.digest.specs.Allowances.{allowance_of}
 use Rattle.rules.specs.Views.{rules_of}
-use Rattle.adding.specs.Walked.{outcome}
+use Rattle.adding.specs.Walked.{CarriedOut}
 use Rattle.filters.proofs.walk.add_rules.Given as goal
 
--- the rules before i are walked
-abbrev pub invariant-loop-i : goal.invariant-loop-i
-invariant-loop-i g l =
-    outcome (allowance_of l.budget) (Ok true) l.digest.masks
-    ≡ carried (walk_below (λ (k : ℕ). add_rule (g.A.AddSecond.adding l.adding) ((rules_of g.O.Width.bytes g.W.Width.bytes l.layout l.rules).entry k)) l.i l.initial.digest.masks)
-    (allowance_of l.initial.budget)
+-- the rules so far are walked
+abbrev pub invariant-loop-rule : goal.invariant-loop-rule
+invariant-loop-rule g l =
+    let all = rules_of g.F.Offset.Width.BYTES g.F.Value.Width.BYTES l.rules in
+    CarriedOut (walk_below (λ (k : ℕ). add_rule (g.A.AddSecond.adding l.adding) (all.entry k)) (length l.yielded)) l.initial.gathering l.gathering (Ok tt)
