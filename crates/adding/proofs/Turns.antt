@@ -12,16 +12,22 @@ use Rattle.std.proofs.lemmas.Iterator.Consumers.{YieldsList-from_first, YieldsLi
 use Rattle.std.proofs.lemmas.List.{length_push}
 use Rattle.std.proofs.lemmas.List.FromFn.{length-map-range_with_len, get_or-map-range_with_len}
 use Rattle.std.proofs.lemmas.Result.{err_from_is_err_and}
+use Rattle.opentype.specs.Bytes.{Array}
 use Rattle.opentype.specs.Carried.{Outcome, Ended}
-use Rattle.opentype.specs.Walks.{Step, walk_below, fold_below}
+use Rattle.opentype.specs.Walks.{Step, stopped, walk, walk_below, fold_below}
 use Rattle.opentype.proofs.Carrying.{turn, ends}
 use Rattle.digest.specs.Allowances.{allowance_of}
+use Rattle.readers.specs.Views.{entries}
 use Rattle.adding.specs.Walked.{ending_of, CarriedOut}
 use Rattle.adding.specs.declared.gathering.Gathering.{Gathering}
 use Rattle.adding.specs.declared.stop.Stop.{Stop}
 use Rattle.adding.specs.declared.stop.Stop.TheVariants.{Exhausted, AnyGlyph}
 
 -- ---- one more step of a walk
+
+-- a part that stops the walk at once
+pub stops : (here : Gathering) → CarriedOut (λ masks. stopped) here here (Err AnyGlyph)
+stops here = record { answer = refl; same_allowance = refl }
 
 ended : (stop : Stop) (m : List ℕ) → Ended (ending_of (Err stop) m)
 ended Exhausted m = tt
@@ -54,68 +60,77 @@ module _ (step : ℕ → List ℕ → Step) {start here : Gathering} (i : ℕ) (
 
 -- ---- iterators that give the entries of an array
 
+pub record Gives {S A X : Type 0} (steps : S → Option A → S → Type 0) (shows : A → X) (s : S) (a : Array X) : Type 0 where
+  pub items : YieldsList steps shows s (entries a)
+
 -- one whose call gives the first of what is left, as it shows
-pub gives : {S A X : Type 0} (shows : A → X) (rest : S → List X) {s t : S} {xs : List X} → t ≡ s → rest s ≡ xs
-    → YieldsList (YieldsFirstBy shows rest) shows t xs
-gives shows rest {xs = xs} is all = YieldsList-from_first shows rest xs (ap rest is ∙ all)
+pub gives : {S A X : Type 0} (shows : A → X) (rest : S → List X) {s t : S} {a : Array X} → t ≡ s → rest s ≡ entries a
+    → Gives (YieldsFirstBy shows rest) shows t a
+gives shows rest {a = a} is all = record { items = YieldsList-from_first shows rest (entries a) (ap rest is ∙ all) }
 
 zip_entries : {X : Type 0} (f : ℕ → X) (a n : ℕ) → zip (range_with_len a n) (map f (range_with_len a n)) ≡ map (λ k. (k, f k)) (range_with_len a n)
 zip_entries f a zero = refl
 zip_entries f a (suc n) = ap (λ ps. (a, f a) ∷ ps) (zip_entries f (a + 1) n)
 
 -- one that is zipped with the numbers of the entries
-pub gives_numbered : {S X : Type 0} (rest : S → List X) (f : ℕ → X) (n : ℕ) {s : Zip (Range ℕ) S} → zip_first s ≡ record { start = 0; end = n }
-    → rest (zip_second s) ≡ map f (range_with_len 0 (n - 0))
-    → YieldsList (zips nat_range_steps (YieldsFirst rest)) (λ p. p) s (map (λ k. (k, f k)) (range_with_len 0 (n - 0)))
-gives_numbered {S} {X} rest f n {s} range all =
-    rw (← zip_entries f 0 (n - 0)) (YieldsList-from_zip (YieldsList-from_range 0 n (n - 0) range (omega arith)) (gives (λ (x : X). x) rest refl all))
+pub gives_numbered : {S X : Type 0} (rest : S → List X) {s t : Zip (Range ℕ) S} {r : Range ℕ} {i : S} {n : ℕ} {a : Array X} → t ≡ s
+    → zip_first s ≡ r → r ≡ record { start = 0; end = n } → n ≡ a.count → zip_second s ≡ i → rest i ≡ entries a
+    → Gives (zips nat_range_steps (YieldsFirst rest)) (λ p. p) t (record { count = a.count; entry = λ k. (k, a.entry k) })
+gives_numbered {S} {X} rest {a = a} is first range count second all =
+    rw (is)
+    (record {
+      items =
+          rw (← zip_entries a.entry 0 (a.count - 0))
+          (YieldsList-from_zip
+          (YieldsList-from_range 0 a.count (a.count - 0) (first ∙ range ∙ ap (λ (m : ℕ). record { start = 0; end = m }) count) (omega arith))
+          (YieldsList-from_first (λ (x : X). x) rest (entries a) (ap rest second ∙ all)));
+    })
 
 -- ---- a turn of a loop over the entries of an array, from a state in which the iterator has given `xs`
 
-module _ {S A X : Type 0} {steps : S → Option A → S → Type 0} {shows : A → X} (f : ℕ → X) (n : ℕ) {s : S}
-    (all : YieldsList steps shows s (map f (range_with_len 0 (n - 0))))
+module _ {S A X : Type 0} {steps : S → Option A → S → Type 0} {shows : A → X} {s : S} {a : Array X} (all : Gives steps shows s a)
     (xs : List A) (t : S) (before : Yields steps s xs t) {r : Option A} (u : S) (now : steps t r u) where
   -- the item shows the entry at the number of turns before it
-  item_is : (x : A) → r ≡ Some x → (length xs < n) × (shows x ≡ f (length xs))
+  item_is : (x : A) → r ≡ Some x → (length xs < a.count) × (shows x ≡ a.entry (length xs))
   item_is x is =
-      let t = YieldsList-turn all xs t before r u x is now in
-      let within : length xs < n = omega (arith, length-map-range_with_len f 0 (n - 0)) in
-      (within, t.1 ∙ get_or-map-range_with_len f 0 (n - 0) (length xs) (length xs) (shows x) (omega arith) (omega arith))
+      let t = YieldsList-turn all.items xs t before r u x is now in
+      let within : length xs < a.count = omega (arith, length-map-range_with_len a.entry 0 (a.count - 0)) in
+      (within, t.1 ∙ get_or-map-range_with_len a.entry 0 (a.count - 0) (length xs) (length xs) (shows x) (omega arith) (omega arith))
 
   -- there are as many turns as entries
-  all_taken : r ≡ None → length xs ≡ n
+  all_taken : r ≡ None → length xs ≡ a.count
   all_taken is =
-      let e = YieldsList-end all xs t before r u is now in
-      omega (arith, length-map-range_with_len f 0 (n - 0))
+      let e = YieldsList-end all.items xs t before r u is now in
+      omega (arith, length-map-range_with_len a.entry 0 (a.count - 0))
 
   -- ---- the loop only adds
 
-  module _ (add : X → List ℕ → List ℕ) (start m : List ℕ) (added : m ≡ fold_below (λ k. add (f k)) (length xs) start) where
-    pub adds_on : (x : A) → r ≡ Some x → {m' : List ℕ} → m' ≡ add (shows x) m → m' ≡ fold_below (λ k. add (f k)) (length (xs ++ x ∷ [])) start
-    adds_on x is {m'} e = rw (length_push, add-one) (e ∙ ap (λ (y : X). add y m) (item_is x is).1 ∙ ap (add (f (length xs))) added)
+  module _ (add : X → List ℕ → List ℕ) (start m : List ℕ) (added : m ≡ fold_below (λ k. add (a.entry k)) (length xs) start) where
+    pub adds_on : (x : A) → r ≡ Some x → {m' : List ℕ} → m' ≡ add (shows x) m → m' ≡ fold_below (λ k. add (a.entry k)) (length (xs ++ x ∷ [])) start
+    adds_on x is {m'} e = rw (length_push, add-one) (e ∙ ap (λ (y : X). add y m) (item_is x is).1 ∙ ap (add (a.entry (length xs))) added)
 
-    pub adds_all : r ≡ None → m ≡ fold_below (λ k. add (f k)) n start
-    adds_all is = subst (λ (k : ℕ). m ≡ fold_below (λ k. add (f k)) k start) (all_taken is) added
+    pub adds_all : r ≡ None → m ≡ fold_below (λ k. add (a.entry k)) a.count start
+    adds_all is = subst (λ (k : ℕ). m ≡ fold_below (λ k. add (a.entry k)) k start) (all_taken is) added
 
   -- ---- the loop walks
 
-  module _ (step : X → List ℕ → Step) {start here : Gathering} (walked : CarriedOut (walk_below (λ k. step (f k)) (length xs)) start here (Ok tt))
+  module _ (step : X → List ℕ → Step) {start here : Gathering} (walked : CarriedOut (walk_below (λ k. step (a.entry k)) (length xs)) start here (Ok tt))
     where
       -- it goes on
       pub walks_on : (x : A) → r ≡ Some x → {next : Gathering} → CarriedOut (step (shows x)) here next (Ok tt)
-          → CarriedOut (walk_below (λ k. step (f k)) (length (xs ++ x ∷ []))) start next (Ok tt)
+          → CarriedOut (walk_below (λ k. step (a.entry k)) (length (xs ++ x ∷ []))) start next (Ok tt)
       walks_on x is {next} now =
-          let here : CarriedOut (step (f (length xs))) here next (Ok tt) = subst (λ (y : X). CarriedOut (step y) here next (Ok tt)) (item_is x is).1 now in
-          rw length_push (goes_on (λ k. step (f k)) (length xs) walked here)
+          let here : CarriedOut (step (a.entry (length xs))) here next (Ok tt) = subst (λ (y : X). CarriedOut (step y) here next (Ok tt)) (item_is x is).1 now in
+          rw length_push (goes_on (λ k. step (a.entry k)) (length xs) walked here)
 
       -- it stops, and with it the walk
-      pub walks_out : (x : A) → r ≡ Some x → {next : Gathering} {stop : Stop} {a : Result (Unit {0}) Stop} → CarriedOut (step (shows x)) here next (Err stop)
-          → IsErrAnd a (λ e. e ≡ stop) → CarriedOut (walk_below (λ k. step (f k)) n) start next a
-      walks_out x is {next} {stop} {a} now out =
+      pub walks_out : (x : A) → r ≡ Some x → {next : Gathering} {stop : Stop} {answer : Result (Unit {0}) Stop} → CarriedOut (step (shows x)) here next (Err stop)
+          → IsErrAnd answer (λ e. e ≡ stop) → CarriedOut (walk step a) start next answer
+      walks_out x is {next} {stop} {answer} now out =
           let i = item_is x is in
-          let here : CarriedOut (step (f (length xs))) here next (Err stop) = subst (λ (y : X). CarriedOut (step y) here next (Err stop)) i.1 now in
-          goes_out (λ k. step (f k)) (length xs) walked n i.0 stop a here out
+          let here : CarriedOut (step (a.entry (length xs))) here next (Err stop) = subst (λ (y : X). CarriedOut (step y) here next (Err stop)) i.1 now in
+          goes_out (λ k. step (a.entry k)) (length xs) walked a.count i.0 stop answer here out
 
       -- it ends
-      pub walks_all : r ≡ None → CarriedOut (walk_below (λ k. step (f k)) n) start here (Ok tt)
-      walks_all is = subst (λ (k : ℕ). CarriedOut (walk_below (λ k. step (f k)) k) start here (Ok tt)) (all_taken is) walked
+      pub walks_all : r ≡ None → CarriedOut (walk step a) start here (Ok tt)
+      walks_all is = subst (λ (k : ℕ). CarriedOut (walk_below (λ k. step (a.entry k)) k) start here (Ok tt)) (all_taken is) walked

@@ -1,2 +1,0 @@
-pub mod Filtering
-pub mod Walking

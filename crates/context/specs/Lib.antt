@@ -1,4 +1,3 @@
-pub mod Filtered
 pub mod Glyphs
 pub mod Classes
 pub mod Coverages

@@ -12,33 +12,39 @@ ghost use Rattle.rule_words.specs.Fills.{entry_of, fill_answer, fill_leaves, fil
 ghost use Rattle.tables.specs.Tables.{classes_of};
 ghost use Rattle.context.specs.Classes.{class_table_of, in_classes};
 
-use crate::filtered::raise;
 use answers::Refusal;
 use bank::subtable::ContextSubtable;
 use digest::budget::{Budget, Exhausted};
 use digest::set_digest::SetDigest;
 use filters::walk::{SecondClass, add_sets};
-use readers::width::{Three, Two};
 use rule_words::fill_words;
 use rules::matching::InClass;
 use rules::rule_sets::RuleSets;
 use rules::walk::{ChainMatchers, Found};
+use rules::widths::{Narrow, WideClasses};
 use tables::class::ClassDef;
 use tables::coverage::Coverage;
 
 /// The glyphs of the 16-bit formats.
 const GLYPHS: u32 = 65_536;
 
+/// The rule sets of a subtable over classes, by their widths. In the wide kind set and rule offsets have three bytes;
+/// values always have two.
+#[derive(Drop)]
+pub enum ClassSets<'a> {
+    Narrow(RuleSets<'a, Narrow>),
+    Wide(RuleSets<'a, WideClasses>),
+}
+
 /// Rules over classes: the first glyph must be covered, and its input class selects the set. Each sequence has a class
-/// table of its own. In the wide kind set and rule offsets have three bytes; values always have two.
+/// table of its own.
 #[derive(Drop)]
 pub struct ChainContext2<'a> {
     pub coverage: Coverage<'a>,
     pub backtrack: ClassDef<'a>,
     pub input: ClassDef<'a>,
     pub lookahead: ClassDef<'a>,
-    pub sets: RuleSets<'a>,
-    pub wide: bool,
+    pub sets: ClassSets<'a>,
 }
 
 impl<'a> ContextSubtable for ChainContext2<'a> {
@@ -47,20 +53,19 @@ impl<'a> ContextSubtable for ChainContext2<'a> {
     ghost sound = { λ view. filters_sound (by_class (class_table_of view)) };
 
     fn applies(&self, glyphs: &[u32], zero_context: bool) -> bool {
-        match glyphs.first() {
-            Some(first) => {
-                self.coverage.covers(*first)
-                    && self.set_applies(self.input.get(*first), glyphs, zero_context)
-            }
-            None => false,
-        }
+        let Some(first) = glyphs.first() else {
+            return false;
+        };
+        self.coverage.covers(*first)
+            && self.set_applies(self.input.get(*first), glyphs, zero_context)
     }
 
     fn find(&self, run: &[u32], place: usize) -> Option<Found> {
-        if place >= run.len() || !self.coverage.covers(run[place]) {
+        let first = *run.get(place)?;
+        if !self.coverage.covers(first) {
             return None;
         }
-        self.set_finds(self.input.get(run[place]), run, place)
+        self.set_finds(self.input.get(first), run, place)
     }
 
     fn can_filter(&self) -> bool {
@@ -71,7 +76,7 @@ impl<'a> ContextSubtable for ChainContext2<'a> {
         if !self.can_filter() {
             return Err(Refusal::NotFilterable);
         }
-        raise(self.seconds(budget))
+        Ok(self.seconds(budget)?)
     }
 }
 
@@ -92,12 +97,9 @@ impl<'a> ChainContext2<'a> {
         ensures { result ≡ set_applies (in_class (classes_of self.now.input)) zero_context glyphs.now (rules_in (class_table_of self.now).sets index) }
     {
         let input = InClass(self.input);
-        if self.wide {
-            self.sets
-                .apply::<Three, Three, Two, InClass>(index, &input, glyphs, zero_context)
-        } else {
-            self.sets
-                .apply::<Two, Two, Two, InClass>(index, &input, glyphs, zero_context)
+        match &self.sets {
+            ClassSets::Narrow(sets) => sets.apply(index, &input, glyphs, zero_context),
+            ClassSets::Wide(sets) => sets.apply(index, &input, glyphs, zero_context),
         }
     }
 
@@ -109,12 +111,9 @@ impl<'a> ChainContext2<'a> {
             input: InClass(self.input),
             lookahead: InClass(self.lookahead),
         };
-        if self.wide {
-            self.sets
-                .find::<Three, Three, Two, InClass, InClass, InClass>(index, &matchers, run, place)
-        } else {
-            self.sets
-                .find::<Two, Two, Two, InClass, InClass, InClass>(index, &matchers, run, place)
+        match &self.sets {
+            ClassSets::Narrow(sets) => sets.find(index, &matchers, run, place),
+            ClassSets::Wide(sets) => sets.find(index, &matchers, run, place),
         }
     }
 
@@ -126,10 +125,9 @@ impl<'a> ChainContext2<'a> {
         ensures left { allowance_of budget.new ≡ fill_leaves (class_table_of self.now).firsts (length words.old) (allowance_of budget.old) }
         ensures buffer { let all = (class_table_of self.now).firsts in ((k : ℕ) → slice_index words.new k ≡ entry_of all (fill_stores all (length words.old) (allowance_of budget.old)) words.old k) }
     {
-        if self.wide {
-            fill_words::<Three, Three>(&self.sets, words, budget)
-        } else {
-            fill_words::<Two, Two>(&self.sets, words, budget)
+        match &self.sets {
+            ClassSets::Narrow(sets) => fill_words(sets, words, budget),
+            ClassSets::Wide(sets) => fill_words(sets, words, budget),
         }
     }
 
@@ -144,10 +142,9 @@ impl<'a> ChainContext2<'a> {
             input: self.input,
             lookahead: self.lookahead,
         };
-        if self.wide {
-            add_sets::<Three, Three, Two, SecondClass>(&self.sets, &adding, budget)
-        } else {
-            add_sets::<Two, Two, Two, SecondClass>(&self.sets, &adding, budget)
+        match &self.sets {
+            ClassSets::Narrow(sets) => add_sets(sets, &adding, budget),
+            ClassSets::Wide(sets) => add_sets(sets, &adding, budget),
         }
     }
 }

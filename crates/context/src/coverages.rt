@@ -10,7 +10,6 @@ ghost use Rattle.filters.specs.Digested.{Walked};
 ghost use Rattle.rules.specs.Views.{found_of};
 ghost use Rattle.context.specs.Coverages.{cover_matchers, coverage_table_of};
 
-use crate::filtered::raise;
 use answers::Refusal;
 use bank::subtable::ContextSubtable;
 use digest::budget::{Budget, Exhausted};
@@ -22,14 +21,20 @@ use rules::parsed::ParsedRule;
 use rules::walk::{ChainMatchers, Found};
 use tables::coverage::Coverage;
 
+/// A rule over coverages, by the width of its values. In the wide kind these have three bytes.
+#[derive(Drop)]
+pub enum CoverageRule<'a> {
+    Narrow(ParsedRule<'a, Two>),
+    Wide(ParsedRule<'a, Three>),
+}
+
 /// One rule over coverages: its values are offsets, in the subtable's bytes, of coverage tables. The first glyph's is
-/// apart. In the wide kind offsets have three bytes.
+/// apart.
 #[derive(Drop)]
 pub struct ChainContext3<'a> {
     pub bytes: &'a [u8],
     pub coverage: Coverage<'a>,
-    pub rule: ParsedRule<'a>,
-    pub wide: bool,
+    pub rule: CoverageRule<'a>,
 }
 
 impl<'a> ContextSubtable for ChainContext3<'a> {
@@ -38,16 +43,14 @@ impl<'a> ContextSubtable for ChainContext3<'a> {
     ghost sound = { λ view. filters_sound (by_coverage (coverage_table_of view)) };
 
     fn applies(&self, glyphs: &[u32], zero_context: bool) -> bool {
-        match glyphs.first() {
-            Some(first) => {
-                self.coverage.covers(*first) && self.rule_applies(glyphs, zero_context)
-            }
-            None => false,
-        }
+        let Some(first) = glyphs.first() else {
+            return false;
+        };
+        self.coverage.covers(*first) && self.rule_applies(glyphs, zero_context)
     }
 
     fn find(&self, run: &[u32], place: usize) -> Option<Found> {
-        if place >= run.len() || !self.coverage.covers(run[place]) {
+        if !self.coverage.covers(*run.get(place)?) {
             return None;
         }
         self.rule_finds(run, place)
@@ -58,7 +61,7 @@ impl<'a> ContextSubtable for ChainContext3<'a> {
     }
 
     fn digest(&self, budget: &mut Budget) -> Result<SetDigest, Refusal> {
-        raise(self.seconds(budget))
+        Ok(self.seconds(budget)?)
     }
 }
 
@@ -67,12 +70,9 @@ impl<'a> ChainContext3<'a> {
         ensures { result ≡ rule_applies covers zero_context glyphs.now (Some (coverage_table_of self.now).rule) }
     {
         let input = CoveredBy(self.bytes);
-        if self.wide {
-            self.rule
-                .applies::<Three, CoveredBy>(&input, glyphs, zero_context)
-        } else {
-            self.rule
-                .applies::<Two, CoveredBy>(&input, glyphs, zero_context)
+        match &self.rule {
+            CoverageRule::Narrow(rule) => rule.applies(&input, glyphs, zero_context),
+            CoverageRule::Wide(rule) => rule.applies(&input, glyphs, zero_context),
         }
     }
 
@@ -84,12 +84,9 @@ impl<'a> ChainContext3<'a> {
             input: CoveredBy(self.bytes),
             lookahead: CoveredBy(self.bytes),
         };
-        if self.wide {
-            self.rule
-                .find::<Three, CoveredBy, CoveredBy, CoveredBy>(&matchers, run, place)
-        } else {
-            self.rule
-                .find::<Two, CoveredBy, CoveredBy, CoveredBy>(&matchers, run, place)
+        match &self.rule {
+            CoverageRule::Narrow(rule) => rule.find(&matchers, run, place),
+            CoverageRule::Wide(rule) => rule.find(&matchers, run, place),
         }
     }
 
@@ -98,10 +95,9 @@ impl<'a> ChainContext3<'a> {
         ensures { Walked (coverage_step (coverage_table_of self.now)) (allowance_of budget.old) (allowance_of budget.new) result }
     {
         let adding = SecondCoverage(self.bytes);
-        if self.wide {
-            add_rule_alone::<Three, SecondCoverage>(&self.rule, &adding, budget)
-        } else {
-            add_rule_alone::<Two, SecondCoverage>(&self.rule, &adding, budget)
+        match &self.rule {
+            CoverageRule::Narrow(rule) => add_rule_alone(rule, &adding, budget),
+            CoverageRule::Wide(rule) => add_rule_alone(rule, &adding, budget),
         }
     }
 }

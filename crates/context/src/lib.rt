@@ -3,6 +3,5 @@
 
 pub mod classes;
 pub mod coverages;
-mod filtered;
 pub mod glyphs;
 pub mod subtable;

@@ -13,7 +13,8 @@ use digest::budget::Budget;
 use digest::set_digest::SetDigest;
 use rules::walk::Found;
 
-/// A subtable of whichever kind its opening gave. It cannot be copied.
+/// A subtable of whichever kind its opening gave. It cannot be copied. An enum and no `dyn`, which would need the heap:
+/// each call is forwarded.
 #[derive(Drop)]
 pub enum Subtable<'a> {
     Glyphs(ChainContext1<'a>),

@@ -1,6 +1,5 @@
 use Rattle.opentype.specs.Filters.{add_range}
-use Rattle.tables.specs.Records.{left_of, record_at}
-use Rattle.tables.specs.Views.{ranges_of}
+use Rattle.tables.specs.Records.{left_of}
 use Rattle.tables.specs.declared.ranges.RangeRecord.{RangeRecord}
 use Rattle.adding.specs.Walked.{alone}
 use Rattle.adding.proofs.Turns.{gives, walks_on, walks_out, walks_all}
@@ -8,20 +7,17 @@ use Rattle.adding.proofs.gathering.Gathering.add_ranges.Goals as goal
 
 pub returns-in_err-add_range : goal.returns-in_err-add_range
 returns-in_err-add_range c =
-    let all = ranges_of c.args.ranges.now in
-    walks_out (record_at all) all.count (gives (λ (range : RangeRecord). range) left_of c.into_iter-range-iterator.ensures.into_iter_gives c.iter-range-items.ensures) c.loop-range.yielded _ c.loop-range.yielded_by c.next.new.self c.next.ensures.steps
+    walks_out (gives (λ (range : RangeRecord). range) left_of c.into_iter-range-iterator.ensures.into_iter_gives c.iter-range-items.ensures) c.loop-range.yielded _ c.loop-range.yielded_by c.next.new.self c.next.ensures.steps
     (λ (range : RangeRecord). add_range (alone range) c.args.class 0) c.loop-range.invariant c.in-Some.range c.in-Some.is
     c.in_err-add_range.ensures c.from_residual.ensures.1
 
 pub loop-range-preserved : goal.loop-range-preserved
 loop-range-preserved c =
-    let all = ranges_of c.args.ranges.now in
-    walks_on (record_at all) all.count (gives (λ (range : RangeRecord). range) left_of c.into_iter-range-iterator.ensures.into_iter_gives c.iter-range-items.ensures) c.loop-range.yielded _ c.loop-range.yielded_by c.next.new.self c.next.ensures.steps
+    walks_on (gives (λ (range : RangeRecord). range) left_of c.into_iter-range-iterator.ensures.into_iter_gives c.iter-range-items.ensures) c.loop-range.yielded _ c.loop-range.yielded_by c.next.new.self c.next.ensures.steps
     (λ (range : RangeRecord). add_range (alone range) c.args.class 0) c.loop-range.invariant c.in-Some.range c.in-Some.is
     c.in_ok-add_range.ensures
 
 pub returns : goal.returns
 returns c =
-    let all = ranges_of c.args.ranges.now in
-    walks_all (record_at all) all.count (gives (λ (range : RangeRecord). range) left_of c.into_iter-range-iterator.ensures.into_iter_gives c.iter-range-items.ensures) c.loop-range.yielded _ c.loop-range.yielded_by c.next.new.self c.next.ensures.steps
+    walks_all (gives (λ (range : RangeRecord). range) left_of c.into_iter-range-iterator.ensures.into_iter_gives c.iter-range-items.ensures) c.loop-range.yielded _ c.loop-range.yielded_by c.next.new.self c.next.ensures.steps
     (λ (range : RangeRecord). add_range (alone range) c.args.class 0) c.loop-range.invariant c.in-None.is

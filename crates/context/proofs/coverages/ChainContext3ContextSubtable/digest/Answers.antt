@@ -1,12 +1,12 @@
-use Rattle.std.proofs.Common.{true, refl}
-use Rattle.opentype.specs.Subtables.{by_coverage, coverage_context, coverage_step, matcher_of}
+use Rattle.std.proofs.Common.{Ok, rules}
+use Rattle.opentype.specs.Subtables.{by_coverage, meaning}
 use Rattle.opentype.proofs.Sounding.{filters_sound}
+use Rattle.digest.specs.Allowances.{allowance_of}
+use Rattle.bank.specs.Lawful.{digest_admits}
 use Rattle.context.specs.Coverages.{coverage_table_of}
-use Rattle.context.proofs.Filtering.{filtered}
 use Rattle.context.proofs.coverages.ChainContext3ContextSubtable.digest.Goals as goal
 
-pub returns : goal.returns
-returns c =
-    let t = coverage_table_of c.args.self.now in
-    rw c.raise.ensures
-    (filtered (matcher_of (coverage_context t)) true (coverage_step t) _ _ _ refl c.seconds.ensures (filters_sound (by_coverage t)))
+pub returns-clause-admits : goal.returns-clause-admits
+returns-clause-admits c =
+    let table = by_coverage (coverage_table_of c.args.self.now) in
+    digest_admits (meaning table) (allowance_of c.args.budget.now) (Ok c.in_ok-seconds.field-0) (filters_sound table) (search rules)
