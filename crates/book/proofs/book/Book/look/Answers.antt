@@ -1,10 +1,10 @@
-use Rattle.std.proofs.Common.{◌≡◌, ℕ, ◌+◌, ◌<◌, length, Some, None, sym, subst, arith}
+use Rattle.std.proofs.Common.{ℕ, ◌+◌, ◌<◌, length, Some, None, sym, subst, arith}
 use Rattle.answers.specs.Questions.{place_refused}
 use Rattle.bank.proofs.Searching.{answer_is, passed}
 use Rattle.bank.specs.Answers.{hit_of}
 use Rattle.opentype.specs.Meaning.{subtable}
 use Rattle.book.specs.Scans.{may_try}
-use Rattle.book.proofs.Looking.{Looked, done, looks, met, missed, skipped}
+use Rattle.book.proofs.Looking.{Looked, looks, met, missed, skipped}
 use Rattle.book.proofs.book.Book.look.Goals as goal
 use Rattle.book.proofs.book.Book.look.Goals.{then-may_try+in_ok-hit+in_default, else-may_try}
 
@@ -41,17 +41,3 @@ loop-k-preserved g c =
       | else-may_try w ↦
           subst (Looked test hit (k + 1)) (sym w.tries-is) (skipped test hit k c.loop-k.tries c.loop-k.invariant (sym w.if-may_try.ensures.value))
     ]
-
-pub returns : goal.returns
-returns g c =
-    let bank = g.B.Matching.meaning c.args.self.now.bank in
-    let slots = c.args.self.now.slots.table in
-    let run = c.args.run.now in
-    let place = c.args.place in
-    let end : c.loop-k.k ≡ length bank = omega arith in
-    let few = (g.B.Matching.lawful c.args.self.now.bank).few in
-    let w = done (may_try slots run place) (λ (k : ℕ). hit_of (subtable bank k) k run place) c.loop-k.k c.loop-k.tries c.loop-k.invariant (length bank) end in
-    record {
-      value = passed (place_refused (length run) place) _ _ _ c.in_ok-ask_place.ensures (looks _ _ _ _ w.0 w.1);
-      few = omega (arith, few, c.loop-k.invariant.few);
-    }
