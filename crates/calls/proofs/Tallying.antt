@@ -9,7 +9,7 @@ use Rattle.calls.specs.Events.{Event, State, after, anew, beside, draw, draws_of
 use Rattle.calls.specs.Promise.{AddsUp}
 use Rattle.calls.specs.Tallies.{Tally, ◌plus◌, granted, nothing, starts, tallied}
 
-pub allowances : (w w' b b' : ℕ) → w ≡ w' → b ≡ b' → ◌≡◌ {A = Allowance} (record { work = w; bytes = b }) (record { work = w'; bytes = b' })
+allowances : (w w' b b' : ℕ) → w ≡ w' → b ≡ b' → ◌≡◌ {A = Allowance} (record { work = w; bytes = b }) (record { work = w'; bytes = b' })
 allowances w w' b b' p q = cc
 
 -- ---- the draws of one call
