@@ -40,38 +40,20 @@ answer_to bank (would_apply glyphs bare) slots left = told_of Applies (answered 
 answer_to bank (scan run room) slots left = told_of Scanned (scan_answer bank slots run room)
 answer_to bank anew slots left = Ok Done
 
--- the list of hits that was lent to a call, then
+-- the list of hits that was lent to a call, then: only a scan writes it
 abbrev pub hits_after : (bank : List Subtable) → Event → List Slot → (lent : List Hit) → List Hit
-hits_after bank (opening chained bytes) slots lent = lent
-hits_after bank (opening_wide parts bytes) slots lent = lent
-hits_after bank (word_fill firsts room) slots lent = lent
-hits_after bank (filter k) slots lent = lent
-hits_after bank (filter_beside other k) slots lent = lent
-hits_after bank (draw ds) slots lent = lent
-hits_after bank (forget k) slots lent = lent
-hits_after bank (state k) slots lent = lent
-hits_after bank (would_apply glyphs bare) slots lent = lent
 hits_after bank (scan run room) slots lent = scan_list bank slots run lent
-hits_after bank anew slots lent = lent
+hits_after bank e slots lent = lent
 
 -- f k, f (k + 1), .., as many as a list has entries
 abbrev pub entries_from : (ℕ → ℕ) → (k : ℕ) → List ℕ → List ℕ
 entries_from f k [] = []
 entries_from f k (x ∷ xs) = f k ∷ entries_from f (k + 1) xs
 
--- the words that were lent to a call, then: those of a fill that are stored come first, and the others stay
+-- the words that were lent to a call, then: only a fill writes them; those that it stores come first, and the others stay
 abbrev pub words_after : Event → (left : Allowance) → (lent : List ℕ) → List ℕ
-words_after (opening chained bytes) left lent = lent
-words_after (opening_wide parts bytes) left lent = lent
 words_after (word_fill firsts room) left lent = entries_from (entry_of firsts (fill_stores firsts room left) lent) 0 lent
-words_after (filter k) left lent = lent
-words_after (filter_beside other k) left lent = lent
-words_after (draw ds) left lent = lent
-words_after (forget k) left lent = lent
-words_after (state k) left lent = lent
-words_after (would_apply glyphs bare) left lent = lent
-words_after (scan run room) left lent = lent
-words_after anew left lent = lent
+words_after e left lent = lent
 
 -- a call made of the slots and of the allowance what its kind makes of them
 pub record Does (bank : List Subtable) (e : Event) (slots slots' : List Slot) (left left' : Allowance) : Type 0 where

@@ -40,13 +40,13 @@ pub record Outcome : Type 0 where
   pub words : List ℕ
   pub left : Allowance
 
-abbrev pub left_is : Left → Allowance
-left_is left = record { work = left.work; bytes = left.bytes }
+abbrev pub allowance_left : Left → Allowance
+allowance_left left = record { work = left.work; bytes = left.bytes }
 
 abbrev pub outcome_of : Line → Outcome
 outcome_of line = record {
   answer = line.answer;
   hits = vec_items line.hits;
   words = vec_items line.words;
-  left = left_is line.left;
+  left = allowance_left line.left;
 }

@@ -1,6 +1,6 @@
 //! A sheet of calls: each line holds one call, the lists that are lent to it, and what came of it.
 ghost use Rattle.std.specs.Prelude.{◌≡◌};
-ghost use Rattle.calls.specs.Sheets.{left_is};
+ghost use Rattle.calls.specs.Sheets.{allowance_left};
 ghost use Rattle.digest.specs.Allowances.{allowance_of};
 
 use answers::{Hit, Refusal};
@@ -35,7 +35,7 @@ pub enum Call<'a> {
     Anew,
 }
 
-/// What a call tells that was granted.
+/// What a granted call tells.
 #[derive(Clone, Copy)]
 pub enum Granted {
     /// Nothing.
@@ -50,7 +50,7 @@ pub enum Granted {
     Digest(SetDigest),
 }
 
-/// What a call answers: what it tells, or why it was refused.
+/// What a call answers: what it tells where it was granted, or why it was refused.
 pub type Answer = Result<Granted, Refusal>;
 
 /// What is left of an allowance.
@@ -63,7 +63,7 @@ pub struct Left {
 impl Left {
     /// What is left of a budget.
     pub fn of(budget: &Budget) -> Self
-        ensures value { left_is result ≡ allowance_of budget.now }
+        ensures value { allowance_left result ≡ allowance_of budget.now }
     {
         Left {
             work: budget.work_left(),
