@@ -1,4 +1,4 @@
-//! The calls of a book. Of every book it is `kept` that each held slot has its subtable's masks, and every other all ones.
+//! The calls of a book.
 ghost use Rattle.std.specs.Prelude.{◌≡◌, ◌≤◌, length, replicate, IfOk, Ok};
 ghost use Rattle.answers.specs.Questions.{answered, list_refused, place_refused};
 ghost use Rattle.opentype.specs.Meaning.{subtable};
@@ -18,6 +18,7 @@ use digest::budget::Budget;
 pub struct Book<B: Filtering> {
     bank: B,
     slots: Slots,
+    // Every held slot has its subtable's masks, and every other all ones.
     pub ghost kept: { Kept (B.Matching.meaning bank) slots.table } by { Kept-prop (B.Matching.meaning bank) slots.table },
 }
 
