@@ -1,15 +1,11 @@
 -- What the slots keep true, through every event; and what a filter does by whether its draws fit.
 -- Assumes nothing.
-use Rattle.std.proofs.Common.{◌≡◌, ℕ, zero, suc, ◌<◌, ◌≤◌, Bool, true, false, cond, not, ◌||◌, ltb, ◌⊎◌, List, [], ◌∷◌, length, get_or, set, replicate, is_ok, Ok, Err, Result, sym, refl, ap, ◌∙◌, subst, inl, inr}
-use lib.ListN.{get_or-replicate, get_or-eq_default}
-use Rattle.std.proofs.lemmas.Bool.{cond_both, lt-ltb, true≢false}
-use Rattle.std.specs.Result.{result_unwrap_or}
-use Rattle.answers.specs.declared.refusal.Refusal.{Refusal}
-use Rattle.answers.specs.declared.refusal.Refusal.TheVariants.{Exhausted as OutOfAllowance}
-use Rattle.bank.specs.Answers.{digest_leaves, digested}
+use Rattle.std.proofs.Common.{◌≡◌, ℕ, zero, suc, Bool, true, false, cond, ltb, ◌⊎◌, List, [], ◌∷◌, length, get_or, set, replicate, sym, refl, ap, ◌∙◌, subst, inl, inr}
+use lib.ListN.{get_or-replicate}
+use Rattle.std.proofs.lemmas.Bool.{cond_both}
 use Rattle.opentype.specs.Draws.{Allowance, fit}
-use Rattle.opentype.specs.Meaning.{Subtable, past_last, subtable}
-use Rattle.book.specs.Calls.{filter_answer, filter_event, filter_slots, forget_slots, of_subtable}
+use Rattle.opentype.specs.Meaning.{Subtable, subtable}
+use Rattle.book.specs.Calls.{filter_event, filter_slots, forget_slots}
 use Rattle.book.specs.Slots.{Kept, MasksBy, after, bare, blank, changed, slot_at}
 use Rattle.book.specs.declared.slots.Slot.{Slot}
 use Rattle.book.specs.declared.slots.SlotEvent.{SlotEvent}
@@ -56,45 +52,3 @@ pub kept_forget : (bank : List Subtable) (k : ℕ) (slots slots' : List Slot) �
 kept_forget bank k slots slots' e kept =
     subst (Kept bank) (sym e)
     (cond_both (ltb k (length bank)) (changed slots k Forget) slots (Kept bank) (λ _. kept_changed bank slots k Forget refl kept) (λ _. kept))
-
--- ---- a filter
-
--- past the last subtable nothing is drawn
-pub past_leaves : (bank : List Subtable) (k : ℕ) (given : Allowance) → length bank ≤ k → given ≡ digest_leaves (subtable bank k) given
-past_leaves bank k given past = sym (ap (λ s. digest_leaves s given) (get_or-eq_default bank past_last past))
-
-module _ (s : Subtable) (given : Allowance) (can : s.filter.can ≡ true) where
-  digest_is : digested s given ≡ cond (fit s.filter.draws given) (Ok s.filter.masks) (Err OutOfAllowance)
-  digest_is = rw can
-
-  granted_by : (fits : Bool) (masks : List ℕ) → Ok masks ≡ cond fits (Ok s.filter.masks) (Err OutOfAllowance) → (fits ≡ true) × (masks ≡ s.filter.masks)
-  granted_by true masks e = (refl, ap (λ r. result_unwrap_or r []) e)
-  granted_by false masks e = absurd (true≢false (ap is_ok e))
-
-  pub granted : (masks : List ℕ) → Ok masks ≡ digested s given → (fit s.filter.draws given ≡ true) × (masks ≡ s.filter.masks)
-  granted masks e = granted_by _ masks (e ∙ digest_is)
-
-  refused_by : (fits : Bool) (e : Refusal) → Err e ≡ cond fits (Ok s.filter.masks) (Err OutOfAllowance) → (fits ≡ false) × (e ≡ OutOfAllowance)
-  refused_by true e h = absurd (true≢false (sym (ap is_ok h)))
-  refused_by false e h = (refl, cc)
-
-  pub refused : (e : Refusal) → Err e ≡ digested s given → (fit s.filter.draws given ≡ false) × (e ≡ OutOfAllowance)
-  refused e h = refused_by _ e (h ∙ digest_is)
-
--- what a filter of a subtable that is there and can be filtered does, by whether its draws fit
-module _ (bank : List Subtable) (k : ℕ) (given : Allowance) (there : ltb k (length bank) ≡ true) (can : (subtable bank k).filter.can ≡ true) where
-  pub answer_by : (fits : Bool) → fit (subtable bank k).filter.draws given ≡ fits → filter_answer bank k given ≡ cond fits (Ok tt) (Err OutOfAllowance)
-  answer_by fits e = rw (there, can, e)
-
-  pub slots_by : (slots : List Slot) (fits : Bool) → fit (subtable bank k).filter.draws given ≡ fits → filter_slots bank k given slots ≡ changed slots k (cond fits (Granted (record { masks = (subtable bank k).filter.masks })) Exhausted)
-  slots_by slots fits e = rw (there, can, e)
-
--- ---- questions to one slot
-
--- the answer for a subtable that is there
-pub there_answer : (bank : List Subtable) (k n m : ℕ) → k < length bank → n ≡ m → ◌≡◌ {A = Result ℕ Refusal} (Ok n) (of_subtable bank k (Ok m))
-there_answer bank k n m below e = let there = lt-ltb k (length bank) below in rw there (ap Ok e)
-
--- where there is a next glyph, its slot decides
-pub next_decides : (next admits b : Bool) → next ≡ true → b ≡ admits → b ≡ (not next || admits)
-next_decides next admits b e same = rw e same

@@ -1,6 +1,6 @@
 -- The subtables at one place, one more at a time.
 -- Assumes nothing.
-use Rattle.std.proofs.Common.{◌≡◌, ℕ, zero, suc, ◌+◌, ◌-◌, ◌<◌, ◌≤◌, Bool, true, false, cond, not, ◌&&◌, is_some, Some, None, Option, sym, refl, ap, ◌∙◌, add-zero, add-suc, arith}
+use Rattle.std.proofs.Common.{◌≡◌, ℕ, zero, suc, ◌+◌, ◌-◌, ◌<◌, ◌≤◌, Bool, true, false, cond, not, ◌&&◌, is_some, Some, None, Option, sym, ap, ◌∙◌, add-zero, add-suc, arith}
 use Rattle.std.proofs.lemmas.Bool.{and_right}
 use Rattle.answers.specs.declared.hit.Hit.{Hit}
 use Rattle.opentype.proofs.Matched.{first_met, first_more}
@@ -33,9 +33,6 @@ module _ {X : Type 0} (test : ℕ → Bool) (f : ℕ → Option X) where
     pub tried : tries ≡ count_until test asked k
     pub few : tries ≤ k
 
-  pub looked_none : Looked 0 0
-  looked_none = record { none = refl; tried = refl; few = omega arith }
-
   module _ (k tries : ℕ) (looked : Looked k tries) where
     try_is : (b : Bool) → test k ≡ b → try test asked k ≡ cond b 1 0
     try_is true e = let n = looked.none in rw (e, n)
@@ -63,9 +60,6 @@ module _ {X : Type 0} (test : ℕ → Bool) (f : ℕ → Option X) where
           first_met asked n k x below looked.none here,
           so_far ∙ sym (count_stays test asked k (n - (k + 1)) x looked.none here) ∙ ap (count_until test asked) rest,
         )
-
-    pub done : (n : ℕ) → k ≡ n → (None ≡ first_below asked n) × (tries ≡ count_until test asked n)
-    done n end = (sym looked.none ∙ ap (first_below asked) end, looked.tried ∙ ap (count_until test asked) end)
 
 -- two looks of the same hit and tries
 pub looks : (o o' : Option Hit) (t t' : ℕ) → o ≡ o' → t ≡ t' → ◌≡◌ {A = Look} (record { hit = o; tries = t }) (record { hit = o'; tries = t' })

@@ -1,7 +1,7 @@
 -- A scan, one place more at a time.
 -- Assumes nothing.
 use Rattle.std.proofs.Common.{◌≡◌, ℕ, ◌+◌, ◌-◌, ◌*◌, ◌<◌, ◌≤◌, Bool, true, false, cond, leb, List, [], ◌∷◌, ◌++◌, length, get_or, take, drop, set, is_ok, Some, None, Ok, Err, Option, sym, refl, ap, ◌∙◌, arith}
-use Rattle.std.proofs.lemmas.List.{append-nil, append_assoc, length-append, length_push, drop_more, drop_all, set_at, take_all, take_at}
+use Rattle.std.proofs.lemmas.List.{append-nil, append_assoc, length-append, length_push, drop_more, drop_all, set_at, take_at}
 use Rattle.std.proofs.lemmas.Bool.{cond-true, le-leb, leb-true, lt-leb, true≢false}
 use Rattle.std.specs.Option.{option_to_list}
 use Rattle.answers.specs.Questions.{answered, run_refused}
@@ -9,12 +9,8 @@ use Rattle.answers.specs.declared.hit.Hit.{Hit}
 use Rattle.answers.specs.declared.refusal.Refusal.TheVariants.{ListFull, TooLong}
 use Rattle.opentype.specs.Meaning.{Subtable}
 use Rattle.book.specs.Scans.{hit_at, hits_in, list_below, scan_answer, scan_list, sum_below, tries_at, tries_in, written}
-use Rattle.book.specs.declared.book.Counts.{Counts}
 use Rattle.book.specs.declared.slots.Slot.{Slot}
 use Rattle.book.proofs.Sums.{list_more, list_split, sum_more}
-
-counts : (a a' b b' : ℕ) → a ≡ a' → b ≡ b' → ◌≡◌ {A = Counts} (record { hits = a; tries = b }) (record { hits = a'; tries = b' })
-counts a a' b b' p q = cc
 
 -- ---- the question that comes first
 
@@ -42,9 +38,6 @@ module _ (bank : List Subtable) (slots : List Slot) (run : List ℕ) (old : List
     pub listed : hits ≡ below p ++ drop (length (below p)) old
     pub tried : tries ≡ sum_below (tries_at bank slots run) p
     pub few : tries ≤ 32 * p
-
-  pub scanned_none : Scanned 0 0 0 old
-  scanned_none = record { number = refl; room = omega arith; listed = refl; tried = refl; few = omega arith }
 
   module _ (p found tries : ℕ) (hits : List Hit) (s : Scanned p found tries hits) where
     more_tries : (t : ℕ) → t ≡ tries_at bank slots run p → tries + t ≡ sum_below (tries_at bank slots run) (p + 1)
@@ -102,14 +95,4 @@ module _ (bank : List Subtable) (slots : List Slot) (run : List ℕ) (old : List
         let none : drop (length all) old ≡ [] = drop_all (length all) old (omega arith) in (
           sym (by_room false few (lt-leb (length all) (length old) long)),
           written_is few (kept ∙ sym (ap (λ x. x ++ drop (length all) old) taken ∙ ap (λ x. below p ++ x) none ∙ append-nil (below p))),
-        )
-
-    pub scanned_all : length run ≤ 65536 → p ≡ length run → (Ok (record { hits = found; tries = tries }) ≡ scan_answer bank slots run (length old)) × (hits ≡ scan_list bank slots run old)
-    scanned_all few end =
-        let whole : below p ≡ all = ap below end in
-        let fits : length all ≤ length old = omega (arith, s.room, s.number, ap length whole) in
-        let same : ◌≡◌ {A = Counts} (record { hits = found; tries = tries }) (record { hits = length all; tries = tries_in bank slots run }) =
-        counts _ _ _ _ (s.number ∙ ap length whole) (s.tried ∙ ap (sum_below (tries_at bank slots run)) end) in (
-          ap Ok same ∙ sym (by_room true few (le-leb (length all) (length old) fits)),
-          written_is few (s.listed ∙ ap (λ x. x ++ drop (length x) old) whole ∙ ap (λ x. x ++ drop (length all) old) (sym (take_all (length old) all fits))),
         )

@@ -5,10 +5,11 @@ use Rattle.answers.specs.declared.refusal.Refusal.{Refusal}
 use Rattle.answers.specs.declared.refusal.Refusal.TheVariants.{Exhausted as OutOfAllowance, NoSuchSubtable, NotFilterable}
 use Rattle.opentype.specs.Draws.{Allowance, fit}
 use Rattle.opentype.specs.Meaning.{Filter, Subtable, subtable}
-use Rattle.book.specs.Slots.{changed, slot_at, state_number}
+use Rattle.book.specs.Slots.{changed, slot_at}
 use Rattle.book.specs.declared.slots.Slot.{Slot}
 use Rattle.book.specs.declared.slots.SlotEvent.{SlotEvent}
 use Rattle.book.specs.declared.slots.SlotEvent.TheVariants.{Granted, Exhausted, Forget}
+use Rattle.book.specs.declared.slots.SlotState.{SlotState}
 
 -- an answer for a subtable of the bank; refused where there is no subtable k
 abbrev pub of_subtable : {X : Type 0} → List Subtable → (k : ℕ) → Result X Refusal → Result X Refusal
@@ -35,5 +36,5 @@ forget_answer bank k = of_subtable bank k (Ok tt)
 abbrev pub forget_slots : List Subtable → (k : ℕ) → List Slot → List Slot
 forget_slots bank k slots = cond (nat_lt k (length bank)) (changed slots k Forget) slots
 
-abbrev pub state_answer : List Subtable → List Slot → (k : ℕ) → Result ℕ Refusal
-state_answer bank slots k = of_subtable bank k (Ok (state_number (slot_at slots k).state))
+abbrev pub state_answer : List Subtable → List Slot → (k : ℕ) → Result SlotState Refusal
+state_answer bank slots k = of_subtable bank k (Ok (slot_at slots k).state)

@@ -9,6 +9,7 @@ use Rattle.book.specs.Calls.{filter_slots, state_answer}
 use Rattle.book.specs.Scans.{hits_in, tries_in}
 use Rattle.book.specs.Slots.{bare}
 use Rattle.book.specs.declared.slots.Slot.{Slot}
+use Rattle.book.specs.declared.slots.SlotState.TheVariants.{Held, GivenUp}
 
 abbrev pub one_bank : List Subtable
 one_bank = option_to_list the_one
@@ -32,8 +33,8 @@ only_hit = record { place = 0; subtable = 0; length = 2; records = 18; record_co
 pub record Examples : Type 0 where
   pub bare_hits : hits_in one_bank bare_slots run ≡ only_hit ∷ []
   pub bare_tries : tries_in one_bank bare_slots run ≡ 4
-  pub held : state_answer one_bank held_slots 0 ≡ Ok 1
+  pub held : state_answer one_bank held_slots 0 ≡ Ok Held
   pub held_hits : hits_in one_bank held_slots run ≡ only_hit ∷ []
   pub held_tries : tries_in one_bank held_slots run ≡ 2
-  pub given_up : state_answer one_bank given_up_slots 0 ≡ Ok 2
+  pub given_up : state_answer one_bank given_up_slots 0 ≡ Ok GivenUp
   pub given_up_tries : tries_in one_bank given_up_slots run ≡ 4

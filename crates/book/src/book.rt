@@ -1,28 +1,29 @@
-//! The calls of a book. `Kept` says that every held slot has its subtable's masks and every other all ones: `new` makes
-//! it so, and every call keeps it.
-ghost use Rattle.std.specs.Prelude.{◌≡◌, ◌≤◌, length, replicate, IfOk};
+//! The calls of a book.
+ghost use Rattle.std.specs.Prelude.{◌≡◌, ◌≤◌, length, replicate, IfOk, Ok};
 ghost use Rattle.answers.specs.Questions.{answered, list_refused, place_refused};
 ghost use Rattle.opentype.specs.Meaning.{subtable};
 ghost use Rattle.digest.specs.Allowances.{allowance_of};
 ghost use Rattle.bank.specs.Answers.{digest_leaves};
-ghost use Rattle.book.specs.Slots.{Kept, bare};
+ghost use Rattle.book.specs.Slots.{Kept, Kept-prop, bare};
 ghost use Rattle.book.specs.Scans.{applies_in, hit_at, scan_answer, scan_list, tries_at};
-ghost use Rattle.book.specs.Calls.{filter_answer, filter_slots, forget_answer, forget_slots, state_answer};
+ghost use Rattle.book.specs.Calls.{filter_answer, filter_slots, forget_answer, forget_slots, of_subtable, state_answer};
 
-use crate::slots::{SlotEvent, Slots};
+use crate::slots::{SlotEvent, SlotState, Slots};
 use answers::{Hit, Refusal, ask_list, ask_place, ask_run};
 use bank::{Filtering, Matching};
 use digest::budget::Budget;
 
 /// A bank, and the filters of its subtables that are held. It takes the bank, and can be neither copied nor dropped:
 /// `end` gives the bank back.
-pub struct Book<B> {
+pub struct Book<B: Filtering> {
     bank: B,
     slots: Slots,
+    // Every held slot has its subtable's masks, and every other all ones.
+    pub ghost kept: { Kept (B.Matching.meaning bank) slots.table } by { Kept-prop (B.Matching.meaning bank) slots.table },
 }
 
 /// What an accepted scan returns.
-#[derive(Clone, Copy)]
+#[derive(Clone, Copy, PartialEq, Eq, Debug)]
 pub struct Counts {
     /// How many hits are listed.
     pub hits: usize,
@@ -42,12 +43,21 @@ impl<B: Filtering> Book<B> {
     pub fn new(bank: B) -> Self
         ensures bank { result.bank ≡ bank }
         ensures slots { result.slots.table ≡ replicate 32 bare }
-        ensures kept { Kept (B.Matching.meaning bank) result.slots.table }
     {
         Book {
             bank,
             slots: Slots::new(),
         }
+    }
+
+    /// Is there a subtable `k`?
+    fn ask_subtable(&self, k: u32) -> Result<(), Refusal>
+        ensures value { result ≡ of_subtable (B.Matching.meaning self.now.bank) k (Ok tt) }
+    {
+        if k >= self.bank.count() {
+            return Err(Refusal::NoSuchSubtable);
+        }
+        Ok(())
     }
 
     /// Makes the filter of subtable `k` and holds it. Refused: a number that is not below the count, a subtable that
@@ -58,24 +68,15 @@ impl<B: Filtering> Book<B> {
         ensures bank { self.new.bank ≡ self.old.bank }
         ensures slots { self.new.slots.table ≡ filter_slots (B.Matching.meaning self.old.bank) k (allowance_of budget.old) self.old.slots.table }
         ensures left { allowance_of budget.new ≡ digest_leaves (subtable (B.Matching.meaning self.old.bank) k) (allowance_of budget.old) }
-        ensures kept { Kept (B.Matching.meaning self.old.bank) self.old.slots.table → Kept (B.Matching.meaning self.old.bank) self.new.slots.table }
     {
-        if k >= self.bank.count() {
-            return Err(Refusal::NoSuchSubtable);
-        }
+        self.ask_subtable(k)?;
         if !self.bank.can_filter(k) {
             return Err(Refusal::NotFilterable);
         }
-        match self.bank.digest_second(k, budget) {
-            Ok(digest) => {
-                self.slots.happen(k, SlotEvent::Granted(digest));
-                Ok(())
-            }
-            Err(refusal) => {
-                self.slots.happen(k, SlotEvent::Exhausted);
-                Err(refusal)
-            }
-        }
+        let digest = self.bank.digest_second(k, budget);
+        self.slots
+            .happen(k, digest.map_or(SlotEvent::Exhausted, SlotEvent::Granted));
+        digest.map(|_| ())
     }
 
     /// Makes slot `k` bare. Refused, with nothing changed: a number that is not below the count.
@@ -83,23 +84,18 @@ impl<B: Filtering> Book<B> {
         ensures answer { result ≡ forget_answer (B.Matching.meaning self.old.bank) k }
         ensures bank { self.new.bank ≡ self.old.bank }
         ensures slots { self.new.slots.table ≡ forget_slots (B.Matching.meaning self.old.bank) k self.old.slots.table }
-        ensures kept { Kept (B.Matching.meaning self.old.bank) self.old.slots.table → Kept (B.Matching.meaning self.old.bank) self.new.slots.table }
     {
-        if k >= self.bank.count() {
-            return Err(Refusal::NoSuchSubtable);
-        }
+        self.ask_subtable(k)?;
         self.slots.happen(k, SlotEvent::Forget);
         Ok(())
     }
 
-    /// The state of slot `k`: 0 bare, 1 held, 2 given up. Refused: a number that is not below the count.
-    pub fn state(&self, k: u32) -> Result<u8, Refusal>
+    /// The state of slot `k`. Refused: a number that is not below the count.
+    pub fn state(&self, k: u32) -> Result<SlotState, Refusal>
         ensures value { result ≡ state_answer (B.Matching.meaning self.now.bank) self.now.slots.table k }
     {
-        if k >= self.bank.count() {
-            return Err(Refusal::NoSuchSubtable);
-        }
-        Ok(self.slots.table[k as usize].state.number())
+        self.ask_subtable(k)?;
+        Ok(self.slots.table[k as usize].state)
     }
 
     /// Would some subtable apply to `glyphs`; where `zero_context`, only by rules without backtrack and lookahead? A
@@ -109,6 +105,7 @@ impl<B: Filtering> Book<B> {
         ensures value { result ≡ answered (list_refused (length glyphs.now)) (applies_in (B.Matching.meaning self.now.bank) self.now.slots.table glyphs.now zero_context) }
     {
         ask_list(glyphs)?;
+        // A bank is asked by the number of a subtable; and `any` could not pass a refusal up.
         for k in 0..self.bank.count() {
             if self.slots.may_try(k, glyphs, 0) && self.bank.would_apply(k, glyphs, zero_context)? {
                 return Ok(true);
@@ -128,10 +125,12 @@ impl<B: Filtering> Book<B> {
         ask_run(run)?;
         let mut found = 0;
         let mut tries = 0;
-        for (place, _glyph) in run.iter().enumerate() {
+        // A bank is asked by place, and with the whole run.
+        for place in 0..run.len() {
             let look = self.look(run, place)?;
             tries += look.tries;
             if let Some(hit) = look.hit {
+                // By index: once `get_mut` has lent an entry, a proof knows no entry of the list any more.
                 if found >= hits.len() {
                     return Err(Refusal::ListFull);
                 }
@@ -149,6 +148,7 @@ impl<B: Filtering> Book<B> {
     {
         ask_place(run, place)?;
         let mut tries = 0;
+        // A bank is asked by the number of a subtable.
         for k in 0..self.bank.count() {
             if self.slots.may_try(k, run, place) {
                 tries += 1;
@@ -161,6 +161,14 @@ impl<B: Filtering> Book<B> {
             }
         }
         Ok(Look { hit: None, tries })
+    }
+
+    /// Ends the book, and starts another on its bank: every slot is bare again.
+    pub fn anew(&mut self)
+        ensures bank { self.new.bank ≡ self.old.bank }
+        ensures slots { self.new.slots.table ≡ replicate 32 bare }
+    {
+        self.slots = Slots::new();
     }
 
     /// Ends the book, and gives the bank back.

@@ -6,3 +6,4 @@ pub mod slots;
 pub mod theorems;
 
 pub use book::{Book, Counts};
+pub use slots::SlotState;

@@ -1,5 +1,5 @@
 //! The slots of a book: one for each subtable that a bank may have.
-ghost use Rattle.std.specs.Prelude.{◌≡◌, ◌+◌, ◌<◌, length, replicate};
+ghost use Rattle.std.specs.Prelude.{◌≡◌, ◌<◌, length, replicate};
 ghost use Rattle.book.specs.Slots.{after, bare, changed, held, idle, state_number};
 ghost use Rattle.book.specs.Scans.{may_try};
 
@@ -8,8 +8,8 @@ use digest::set_digest::SetDigest;
 /// How many slots there are: as many as a bank may have subtables.
 const SLOTS: usize = 32;
 
-/// What a book knows of a subtable's filter.
-#[derive(Clone, Copy)]
+/// What a book knows of a subtable's filter. The number stands for the state where answers are printed or stored.
+#[derive(Clone, Copy, PartialEq, Eq, Debug)]
 pub enum SlotState {
     /// Nothing: it was never asked for, or is forgotten.
     Bare = 0,
@@ -19,12 +19,11 @@ pub enum SlotState {
     GivenUp = 2,
 }
 
-impl SlotState {
-    /// The state's number.
-    pub fn number(self) -> u8
-        ensures value { result ≡ state_number self }
-    {
-        self as u8
+impl From<SlotState> for u8 {
+    ghost from_gives = { λ state number. number ≡ state_number state };
+
+    fn from(state: SlotState) -> u8 {
+        state as u8
     }
 }
 
@@ -71,7 +70,7 @@ pub enum SlotEvent {
 /// The slots of a book.
 #[derive(Drop)]
 pub struct Slots {
-    pub table: [Slot; 32],
+    pub table: [Slot; SLOTS],
 }
 
 impl Slots {
@@ -98,7 +97,8 @@ impl Slots {
         requires inside { place < length run.now }
         ensures value { result ≡ may_try self.now.table run.now place k }
     {
-        place + 1 >= run.len() || self.table[k as usize].digest.may_have(run[place + 1])
+        run.get(place + 1)
+            .is_none_or(|next| self.table[k as usize].digest.may_have(*next))
     }
 }
 
@@ -107,14 +107,8 @@ fn step(slot: &mut Slot, event: SlotEvent)
     ensures value { slot.new ≡ after slot.old event }
 {
     *slot = match (slot.state, event) {
-        (SlotState::Bare, SlotEvent::Granted(digest)) => Slot::held(digest),
-        (SlotState::Bare, SlotEvent::Exhausted) => Slot::idle(SlotState::GivenUp),
-        (SlotState::Bare, SlotEvent::Forget) => Slot::idle(SlotState::Bare),
-        (SlotState::Held, SlotEvent::Granted(digest)) => Slot::held(digest),
-        (SlotState::Held, SlotEvent::Exhausted) => Slot::idle(SlotState::GivenUp),
-        (SlotState::Held, SlotEvent::Forget) => Slot::idle(SlotState::Bare),
-        (SlotState::GivenUp, SlotEvent::Granted(digest)) => Slot::held(digest),
-        (SlotState::GivenUp, SlotEvent::Exhausted) => Slot::idle(SlotState::GivenUp),
-        (SlotState::GivenUp, SlotEvent::Forget) => Slot::idle(SlotState::Bare),
+        (_, SlotEvent::Granted(digest)) => Slot::held(digest),
+        (_, SlotEvent::Exhausted) => Slot::idle(SlotState::GivenUp),
+        (_, SlotEvent::Forget) => Slot::idle(SlotState::Bare),
     };
 }

@@ -15,14 +15,15 @@ use Rattle.book.specs.Laws.{Listed, Whole, hits_of, tries_by}
 use Rattle.book.specs.Scans.{applies_in, hits_in, tries_in, written}
 use Rattle.book.specs.declared.book.Counts.{Counts}
 use Rattle.opentype.specs.Meaning.{Bank}
-use Rattle.calls.specs.Answers.{answer_to, hits_after, told}
+use Rattle.opening.specs.Opened.{told_of}
+use Rattle.calls.specs.Answers.{answer_to, hits_after}
 use Rattle.calls.specs.Events.{State, after, effect, leaves, new_book, tally}
 use Rattle.calls.specs.Promise.{Promise, Sheet, ToldApplies, ToldHits, blank, call, held_at, left_at, outcome, state_at}
 use Rattle.calls.specs.Replied.{Replied}
 use Rattle.calls.specs.Sheets.{Outcome}
 use Rattle.calls.specs.Tallies.{◌plus◌}
 use Rattle.calls.specs.Theorems.{SheetsAgree, SheetsInTurn, SheetsKeep}
-use Rattle.calls.specs.declared.sheet.Answer.TheVariants.{Applies, Scanned}
+use Rattle.calls.specs.declared.sheet.Granted.TheVariants.{Applies, Scanned}
 use Rattle.calls.proofs.Running.{kept_always, state_more}
 use Rattle.calls.proofs.Tallying.{adds, adds_in_turn}
 
@@ -32,7 +33,7 @@ all_written : (hits lent : List Hit) → length hits ≤ length lent → take (l
 all_written hits lent le = ap (λ x. take (length hits) (x ++ drop (length hits) lent)) (take_all (length lent) hits le) ∙ take_at hits (drop (length hits) lent) (length hits) refl
 
 hears : (found lent list hits : List Hit) (tried room tries : ℕ) (a b : Bool) → leb (length found) room ≡ b
-    → told Scanned (cond a (cond b (Ok (record { hits = length found; tries = tried })) (Err ListFull)) (Err TooLong)) ≡ Scanned (record { hits = length hits; tries = tries })
+    → Some (told_of Scanned (cond a (cond b (Ok (record { hits = length found; tries = tried })) (Err ListFull)) (Err TooLong))) ≡ Some (Ok (Scanned (record { hits = length hits; tries = tries })))
     → room ≡ length lent → list ≡ cond a (written found lent) lent → take (length hits) list ≡ hits → (found ≡ hits) × (tried ≡ tries)
 hears found lent list hits tried room tries true true fits e same w t =
     let counts : ◌≡◌ {A = Counts} (record { hits = length found; tries = tried }) (record { hits = length hits; tries = tries }) = cc in
@@ -40,12 +41,12 @@ hears found lent list hits tried room tries true true fits e same w t =
       sym (all_written found lent (omega arith)) ∙ ap (λ (n : Counts). take n.hits (written found lent)) counts ∙ ap (take (length hits)) (sym w) ∙ t,
       ap (λ (n : Counts). n.tries) counts,
     )
-hears found lent list hits tried room tries true false fits e same w t = let z : ◌≡◌ {A = ℕ} 0 1 = cc in absurd (omega arith)
-hears found lent list hits tried room tries false b fits e same w t = let z : ◌≡◌ {A = ℕ} 0 1 = cc in absurd (omega arith)
+hears found lent list hits tried room tries true false fits e same w t = cc
+hears found lent list hits tried room tries false b fits e same w t = cc
 
-says : (refusal : Option Refusal) (x said : Bool) → told Applies (answered refusal x) ≡ Applies said → x ≡ said
+says : (refusal : Option Refusal) (x said : Bool) → Some (told_of Applies (answered refusal x)) ≡ Some (Ok (Applies said)) → x ≡ said
 says None x said e = cc
-says (Some d) x said e = let z : ◌≡◌ {A = ℕ} 0 1 = cc in absurd (omega arith)
+says (Some d) x said e = cc
 
 -- ---- one sheet
 
@@ -58,7 +59,7 @@ module _ (x : Sheet) (lent : List Outcome) (law : Bank x.bank) (r : Replied x le
   heard i run hits tries t =
       let s = state_at x i in
       let e = r.each i t.here in
-      let answer = ap (λ c. answer_to x.bank c s.slots s.left) (sym t.asked) ∙ ap (λ (o : Outcome). o.answer) (sym e) ∙ t.accepted in
+      let answer = ap (λ c. Some (answer_to x.bank c s.slots s.left)) (sym t.asked) ∙ ap (λ (o : Outcome). o.answer) (sym e) ∙ t.accepted in
       let list = ap (λ (o : Outcome). o.hits) e ∙ ap (λ c. hits_after x.bank c s.slots (get_or lent i blank).hits) t.asked in
       hears (hits_in x.bank s.slots run) (get_or lent i blank).hits (outcome x i).hits hits (tries_in x.bank s.slots run) t.room tries (leb (length run) 65536) _ refl
       answer (r.rooms i run t.room t.here t.asked) list t.listed
@@ -73,7 +74,7 @@ module _ (x : Sheet) (lent : List Outcome) (law : Bank x.bank) (r : Replied x le
   said_is i glyphs bare said t =
       let s = state_at x i in
       sym (says (list_refused (length glyphs)) (applies_in x.bank s.slots glyphs bare) said
-      (ap (λ c. answer_to x.bank c s.slots s.left) (sym t.asked) ∙ ap (λ (o : Outcome). o.answer) (sym (r.each i t.here)) ∙ t.accepted))
+      (ap (λ c. Some (answer_to x.bank c s.slots s.left)) (sym t.asked) ∙ ap (λ (o : Outcome). o.answer) (sym (r.each i t.here)) ∙ t.accepted))
       ∙ (whole i).applies glyphs bare
 
   left_is : (n : ℕ) → n ≤ length x.calls → left_at x n ≡ (state_at x n).left

@@ -7,7 +7,7 @@ use Rattle.book.specs.Slots.{Kept}
 use Rattle.book.specs.declared.slots.Slot.{Slot}
 use Rattle.opentype.specs.Draws.{Allowance}
 use Rattle.opentype.specs.Meaning.{Subtable}
-use Rattle.calls.specs.Events.{Event, State, after, anew, draw, effect, filter, filter_beside, forget, new_book, opening, opening_wide, scan, slots_after, state, word_fill, would_apply}
+use Rattle.calls.specs.Events.{Event, State, after, anew, effect, filter, forget, new_book, slots_after}
 
 after_push : (bank : List Subtable) (s : State) (es : List Event) (e : Event) → after bank s (es ++ e ∷ []) ≡ effect bank e (after bank s es)
 after_push bank s [] e = refl
@@ -18,17 +18,10 @@ pub state_more : (bank : List Subtable) (s : State) (es : List Event) (i : ℕ) 
 state_more bank s es i lt = ap (after bank s) (take_more es i anew lt) ∙ after_push bank s (take i es) (get_or es i anew)
 
 kept_call : (bank : List Subtable) (e : Event) (slots : List Slot) (left : Allowance) → Kept bank slots → Kept bank (slots_after bank e slots left)
-kept_call bank (opening chained bytes) slots left h = h
-kept_call bank (opening_wide parts bytes) slots left h = h
-kept_call bank (word_fill firsts room) slots left h = h
 kept_call bank (filter k) slots left h = kept_filter bank k left slots _ refl h
-kept_call bank (filter_beside other k) slots left h = h
-kept_call bank (draw ds) slots left h = h
 kept_call bank (forget k) slots left h = kept_forget bank k slots _ refl h
-kept_call bank (state k) slots left h = h
-kept_call bank (would_apply glyphs bare) slots left h = h
-kept_call bank (scan run room) slots left h = h
 kept_call bank anew slots left h = kept_new bank _ refl
+kept_call bank e slots left h = h
 
 kept_after : (bank : List Subtable) (s : State) (es : List Event) → Kept bank s.slots → Kept bank (after bank s es).slots
 kept_after bank s [] h = h

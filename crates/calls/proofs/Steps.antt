@@ -1,9 +1,8 @@
 -- A sheet of calls, one line more at a time.
 -- Assumes nothing.
-use Rattle.std.proofs.Common.{◌≡◌, ℕ, ◌+◌, ◌<◌, ◌≤◌, ◌≢◌, List, [], ◌∷◌, map, length, get_or, take, set, replicate, sym, refl, ap, ◌∙◌, subst, ⊎_elim, arith}
+use Rattle.std.proofs.Common.{◌≡◌, ℕ, ◌+◌, ◌<◌, ◌≤◌, ◌≢◌, List, [], ◌∷◌, map, length, get_or, take, set, sym, ap, ◌∙◌, subst, ⊎_elim, arith}
 use Rattle.std.proofs.lemmas.List.{get_or_default, get_or-map, get_or-set_other, get_or-set_same, length-map, length-set, map-set, set-get_or}
 use Rattle.std.proofs.lemmas.Bool.{cases_lt}
-use Rattle.book.specs.Slots.{bare}
 use Rattle.book.specs.declared.slots.Slot.{Slot}
 use Rattle.digest.specs.Allowances.{allowance_of}
 use Rattle.digest.specs.declared.budget.Budget.{Budget}
@@ -15,7 +14,7 @@ use Rattle.calls.specs.Promise.{blank}
 use Rattle.calls.specs.Replied.{Replied, outcome_then, sheet, slots_left}
 use Rattle.calls.specs.Sheets.{Outcome, calls_of, event, event_of, outcome_of}
 use Rattle.calls.specs.declared.sheet.Call.{Call}
-use Rattle.calls.specs.declared.sheet.Call.TheVariants.{Anew, Fill, Filter, FilterBeside, Forget, Open, OpenWide, Scan, State as StateOf, WouldApply}
+use Rattle.calls.specs.declared.sheet.Call.TheVariants.{Scan}
 use Rattle.calls.specs.declared.sheet.Line.{Line}
 use Rattle.calls.proofs.Running.{state_more}
 
@@ -29,16 +28,8 @@ some (x ∷ l) i lt = x
 
 -- a call that reads as a scan has the room of the list lent to it
 room_of : (aside : List Subtable) (call : Call) (hits words room : ℕ) (run : List ℕ) → event aside call hits words ≡ scan run room → room ≡ hits
-room_of aside (Open bytes chained) hits words room run e = let z : ◌≡◌ {A = ℕ} 0 1 = cc in absurd (omega arith)
-room_of aside (OpenWide bytes parts) hits words room run e = let z : ◌≡◌ {A = ℕ} 0 1 = cc in absurd (omega arith)
-room_of aside (Fill view) hits words room run e = let z : ◌≡◌ {A = ℕ} 0 1 = cc in absurd (omega arith)
-room_of aside (Filter k) hits words room run e = let z : ◌≡◌ {A = ℕ} 0 1 = cc in absurd (omega arith)
-room_of aside (FilterBeside k) hits words room run e = let z : ◌≡◌ {A = ℕ} 0 1 = cc in absurd (omega arith)
-room_of aside (Forget k) hits words room run e = let z : ◌≡◌ {A = ℕ} 0 1 = cc in absurd (omega arith)
-room_of aside (StateOf k) hits words room run e = let z : ◌≡◌ {A = ℕ} 0 1 = cc in absurd (omega arith)
-room_of aside (WouldApply glyphs bare) hits words room run e = let z : ◌≡◌ {A = ℕ} 0 1 = cc in absurd (omega arith)
 room_of aside (Scan r) hits words room run e = cc
-room_of aside Anew hits words room run e = let z : ◌≡◌ {A = ℕ} 0 1 = cc in absurd (omega arith)
+room_of aside call hits words room run e = cc
 
 module _ (aside bank : List Subtable) (began : Budget) (old : List Line) where
   abbrev es : List Event
@@ -55,9 +46,6 @@ module _ (aside bank : List Subtable) (began : Budget) (old : List Line) where
     pub left_is : allowance_of budget ≡ (at i).left
     pub each : (j : ℕ) (d : Line) → j < i → j < length old → outcome_of (get_or lines j d) ≡ outcome_then bank (event_of aside (get_or old j d)) (at j) (outcome_of (get_or old j d))
     pub others : (j : ℕ) (d : Line) → i ≤ j → get_or lines j d ≡ get_or old j d
-
-  pub played_none : (slots : List Slot) → slots ≡ replicate 32 bare → Played 0 slots began old
-  played_none slots e = record { size = refl; same_calls = refl; slots_are = e; left_is = refl; each = λ j d lt in-old. absurd (omega arith); others = λ j d le. refl }
 
   event_at : (i : ℕ) (d : Line) → i < length old → get_or es i anew ≡ event_of aside (get_or old i d)
   event_at i d lt = get_or-map (event_of aside) old i d anew lt

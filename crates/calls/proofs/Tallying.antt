@@ -5,11 +5,11 @@ use Rattle.std.proofs.lemmas.List.{append_assoc}
 use Rattle.std.proofs.lemmas.Bool.{cond_both, leb-true}
 use Rattle.opentype.specs.Draws.{Allowance, Counter, Draw, byte_counter, fits, left_of, rest, work_counter}
 use Rattle.opentype.specs.Meaning.{Subtable}
-use Rattle.calls.specs.Events.{Event, State, after, anew, beside, draw, draws_of, effect, filter, filter_beside, forget, new_book, opening, opening_wide, scan, state, tally, tally_on, word_fill, would_apply}
+use Rattle.calls.specs.Events.{Event, State, after, beside, draws_of, effect, filter, new_book, tally, tally_on}
 use Rattle.calls.specs.Promise.{AddsUp}
 use Rattle.calls.specs.Tallies.{Tally, ◌plus◌, granted, nothing, starts, tallied}
 
-pub allowances : (w w' b b' : ℕ) → w ≡ w' → b ≡ b' → ◌≡◌ {A = Allowance} (record { work = w; bytes = b }) (record { work = w'; bytes = b' })
+allowances : (w w' b b' : ℕ) → w ≡ w' → b ≡ b' → ◌≡◌ {A = Allowance} (record { work = w; bytes = b }) (record { work = w'; bytes = b' })
 allowances w w' b b' p q = cc
 
 -- ---- the draws of one call
@@ -62,17 +62,8 @@ module _ (bank : List Subtable) where
   after-append s (e ∷ es) fs = after-append (effect bank e s) es fs
 
   draws_beside : (other : List Subtable) (e : Event) → draws_of bank (beside other e) ≡ draws_of other e
-  draws_beside other (opening chained bytes) = refl
-  draws_beside other (opening_wide parts bytes) = refl
-  draws_beside other (word_fill firsts room) = refl
   draws_beside other (filter k) = refl
-  draws_beside other (filter_beside third k) = refl
-  draws_beside other (draw ds) = refl
-  draws_beside other (forget k) = refl
-  draws_beside other (state k) = refl
-  draws_beside other (would_apply glyphs bare) = refl
-  draws_beside other (scan run room) = refl
-  draws_beside other anew = refl
+  draws_beside other e = refl
 
   -- the calls of a book on another bank leave as much, as calls beside this one
   left_beside : (other : List Subtable) (s s' : State) (es : List Event) → s.left ≡ s'.left → (after bank s (map (beside other) es)).left ≡ (after other s' es).left

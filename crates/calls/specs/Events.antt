@@ -48,7 +48,7 @@ filter_draws s = cond s.filter.can s.filter.draws []
 abbrev pub fill_draws : (firsts : Array (RuleSet (Option ℕ))) → (room : ℕ) → List Draw
 fill_draws firsts room = cond (nat_le firsts.count room) (word_draws firsts) []
 
--- the draws that a call sets out to make, in order, where `bank` is the book's
+-- the draws that a call sets out to make, in order, where `bank` is the book's; the other calls make none
 abbrev pub draws_of : (bank : List Subtable) → Event → List Draw
 draws_of bank (opening chained bytes) = table_draws (opened chained bytes)
 draws_of bank (opening_wide parts bytes) = table_draws (opened_wide parts bytes)
@@ -56,11 +56,7 @@ draws_of bank (word_fill firsts room) = fill_draws firsts room
 draws_of bank (filter k) = filter_draws (subtable bank k)
 draws_of bank (filter_beside other k) = filter_draws (subtable other k)
 draws_of bank (draw ds) = ds
-draws_of bank (forget k) = []
-draws_of bank (state k) = []
-draws_of bank (would_apply glyphs flag) = []
-draws_of bank (scan run room) = []
-draws_of bank anew = []
+draws_of bank e = []
 
 -- the tally of a list of calls
 abbrev pub tally_on : (bank : List Subtable) → Tally → List Event → Tally
@@ -70,19 +66,10 @@ tally_on bank t (e ∷ es) = tally_on bank (tallied (draws_of bank e) t) es
 abbrev pub tally : (bank : List Subtable) → (given : Allowance) → List Event → Tally
 tally bank given es = tally_on bank (starts given) es
 
--- a call on a book over `other`, as a call beside another book
+-- a call on a book over `other`, as a call beside another book: a filter is put to `other` all the same
 abbrev pub beside : (other : List Subtable) → Event → Event
-beside other (opening chained bytes) = opening chained bytes
-beside other (opening_wide parts bytes) = opening_wide parts bytes
-beside other (word_fill firsts room) = word_fill firsts room
 beside other (filter k) = filter_beside other k
-beside other (filter_beside third k) = filter_beside third k
-beside other (draw ds) = draw ds
-beside other (forget k) = forget k
-beside other (state k) = state k
-beside other (would_apply glyphs bare) = would_apply glyphs bare
-beside other (scan run room) = scan run room
-beside other anew = anew
+beside other e = e
 
 -- ---- a book and the allowance
 
@@ -94,18 +81,12 @@ pub record State : Type 0 where
 abbrev pub new_book : (given : Allowance) → State
 new_book given = record { slots = replicate 32 bare; left = given }
 
+-- the slots after a call: the other calls leave them
 abbrev pub slots_after : (bank : List Subtable) → Event → List Slot → (left : Allowance) → List Slot
-slots_after bank (opening chained bytes) slots left = slots
-slots_after bank (opening_wide parts bytes) slots left = slots
-slots_after bank (word_fill firsts room) slots left = slots
 slots_after bank (filter k) slots left = filter_slots bank k left slots
-slots_after bank (filter_beside other k) slots left = slots
-slots_after bank (draw ds) slots left = slots
 slots_after bank (forget k) slots left = forget_slots bank k slots
-slots_after bank (state k) slots left = slots
-slots_after bank (would_apply glyphs flag) slots left = slots
-slots_after bank (scan run room) slots left = slots
 slots_after bank anew slots left = replicate 32 bare
+slots_after bank e slots left = slots
 
 -- what one call makes of the book and the allowance
 abbrev pub effect : (bank : List Subtable) → Event → State → State

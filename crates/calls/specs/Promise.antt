@@ -1,6 +1,6 @@
 -- What holds of every sheet of calls that was worked off on a new book.
 -- Assumes nothing.
-use Rattle.std.specs.Prelude.{◌≡◌, ℕ, zero, suc, ◌<◌, ◌≤◌, Bool, true, List, [], ◌++◌, length, take, Decides, slice_index_or}
+use Rattle.std.specs.Prelude.{◌≡◌, ℕ, zero, suc, ◌<◌, ◌≤◌, Bool, true, List, [], ◌++◌, length, take, Some, None, Ok, Decides, slice_index_or}
 use Rattle.answers.specs.declared.hit.Hit.{Hit}
 use Rattle.bank.specs.Searches.{SomeApplies}
 use Rattle.book.specs.Laws.{Listed, held_in, tries_by}
@@ -9,7 +9,7 @@ use Rattle.opentype.specs.Meaning.{Subtable}
 use Rattle.calls.specs.Events.{Event, State, after, anew, leaves, new_book, scan, tally, would_apply}
 use Rattle.calls.specs.Sheets.{Outcome}
 use Rattle.calls.specs.Tallies.{◌plus◌, nothing}
-use Rattle.calls.specs.declared.sheet.Answer.TheVariants.{Applies, Blank, Scanned}
+use Rattle.calls.specs.declared.sheet.Granted.TheVariants.{Applies, Scanned}
 
 -- a sheet worked off: what the book's bank means, the allowance as the book began, the calls, what came of each, and what
 -- is left of the allowance now
@@ -22,7 +22,7 @@ pub record Sheet : Type 0 where
 
 -- what is read past the last outcome; it is never asked for
 abbrev pub blank : Outcome
-blank = record { answer = Blank; hits = []; words = []; left = nothing }
+blank = record { answer = None; hits = []; words = []; left = nothing }
 
 abbrev pub call : Sheet → (i : ℕ) → Event
 call x i = slice_index_or x.calls i anew
@@ -48,14 +48,14 @@ pub record ToldHits (x : Sheet) (i : ℕ) (run : List ℕ) (hits : List Hit) (tr
   pub here : i < length x.calls
   pub room : ℕ
   pub asked : call x i ≡ scan run room
-  pub accepted : (outcome x i).answer ≡ Scanned (record { hits = length hits; tries = tries })
+  pub accepted : (outcome x i).answer ≡ Some (Ok (Scanned (record { hits = length hits; tries = tries })))
   pub listed : take (length hits) (outcome x i).hits ≡ hits
 
 -- call i was a would-apply of these glyphs, and was accepted with this answer
 pub record ToldApplies (x : Sheet) (i : ℕ) (glyphs : List ℕ) (bare yes : Bool) : Type 0 where
   pub here : i < length x.calls
   pub asked : call x i ≡ would_apply glyphs bare
-  pub accepted : (outcome x i).answer ≡ Applies yes
+  pub accepted : (outcome x i).answer ≡ Some (Ok (Applies yes))
 
 -- Whatever earlier calls led from an allowance given to the one that these calls began with: the allowance given is what
 -- is left and all draws granted so far, by the tally of the earlier calls and these.

@@ -1,15 +1,17 @@
 -- A sheet of calls as the program holds it, read as the calls that the tally sees and as what came of them.
 -- Assumes nothing.
-use Rattle.std.specs.Prelude.{ℕ, List, map, length, vec_items}
+use Rattle.std.specs.Prelude.{ℕ, List, map, length, Option, Result, vec_items}
 use Rattle.answers.specs.declared.hit.Hit.{Hit}
+use Rattle.answers.specs.declared.refusal.Refusal.{Refusal}
 use Rattle.context.specs.Classes.{class_table_of}
 use Rattle.opening.specs.Wide.{parts_of}
 use Rattle.opentype.specs.Draws.{Allowance}
 use Rattle.opentype.specs.Meaning.{Subtable}
 use Rattle.calls.specs.Events.{Event, anew, filter, filter_beside, forget, opening, opening_wide, scan, state, word_fill, would_apply}
-use Rattle.calls.specs.declared.sheet.Answer.{Answer}
 use Rattle.calls.specs.declared.sheet.Call.{Call}
 use Rattle.calls.specs.declared.sheet.Call.TheVariants.{Anew, Fill, Filter, FilterBeside, Forget, Open, OpenWide, Scan, State, WouldApply}
+use Rattle.calls.specs.declared.sheet.Granted.{Granted}
+use Rattle.calls.specs.declared.sheet.Left.{Left}
 use Rattle.calls.specs.declared.sheet.Line.{Line}
 
 -- a call, where lists with this room for hits and for words are lent to it; `aside` is what the bank beside the book means
@@ -31,17 +33,20 @@ event_of aside line = event aside line.call (length (vec_items line.hits)) (leng
 abbrev pub calls_of : List Line → List Call
 calls_of lines = map (λ line. line.call) lines
 
--- what came of a call: its answer, the lists that were lent to it, and what is left of the allowance
+-- what came of a call: its answer once it was made, the lists that were lent to it, and what is left of the allowance
 pub record Outcome : Type 0 where
-  pub answer : Answer
+  pub answer : Option (Result Granted Refusal)
   pub hits : List Hit
   pub words : List ℕ
   pub left : Allowance
+
+abbrev pub allowance_left : Left → Allowance
+allowance_left left = record { work = left.work; bytes = left.bytes }
 
 abbrev pub outcome_of : Line → Outcome
 outcome_of line = record {
   answer = line.answer;
   hits = vec_items line.hits;
   words = vec_items line.words;
-  left = record { work = line.work_left; bytes = line.bytes_left };
+  left = allowance_left line.left;
 }

@@ -5,4 +5,4 @@
 pub mod sheet;
 pub mod theorems;
 
-pub use sheet::{Answer, Call, Line};
+pub use sheet::{Answer, Call, Granted, Left, Line};

@@ -1,7 +1,12 @@
 //! A sheet of calls: each line holds one call, the lists that are lent to it, and what came of it.
+ghost use Rattle.std.specs.Prelude.{◌≡◌};
+ghost use Rattle.calls.specs.Sheets.{allowance_left};
+ghost use Rattle.digest.specs.Allowances.{allowance_of};
+
 use answers::{Hit, Refusal};
-use book::Counts;
+use book::{Counts, SlotState};
 use context::classes::ChainContext2;
+use digest::budget::Budget;
 use digest::set_digest::SetDigest;
 use opening::wide::WideParts;
 
@@ -30,17 +35,13 @@ pub enum Call<'a> {
     Anew,
 }
 
-/// What a call answers.
+/// What a granted call tells.
 #[derive(Clone, Copy)]
-pub enum Answer {
-    /// The line is not worked off yet.
-    Blank,
-    /// The call was refused.
-    Refused(Refusal),
-    /// The call was granted, and there is nothing to tell.
+pub enum Granted {
+    /// Nothing.
     Done,
-    /// The number of a slot's state.
-    StateIs(u8),
+    /// A slot's state.
+    StateIs(SlotState),
     /// Whether some subtable would apply.
     Applies(bool),
     /// How many hits a scan lists, and how many tries it took.
@@ -49,13 +50,34 @@ pub enum Answer {
     Digest(SetDigest),
 }
 
-/// One line: the call with the lists lent to it, its answer, and what is left of the allowance then.
+/// What a call answers: what it tells where it was granted, or why it was refused.
+pub type Answer = Result<Granted, Refusal>;
+
+/// What is left of an allowance.
+#[derive(Clone, Copy, PartialEq, Eq, Debug)]
+pub struct Left {
+    pub work: u64,
+    pub bytes: u64,
+}
+
+impl Left {
+    /// What is left of a budget.
+    pub fn of(budget: &Budget) -> Self
+        ensures value { allowance_left result ≡ allowance_of budget.now }
+    {
+        Left {
+            work: budget.work_left(),
+            bytes: budget.bytes_left(),
+        }
+    }
+}
+
+/// One line: the call with the lists lent to it, its answer once it is worked off, and what is left of the allowance then.
 #[derive(Drop)]
 pub struct Line<'a> {
     pub call: Call<'a>,
     pub hits: Vec<Hit>,
     pub words: Vec<u64>,
-    pub answer: Answer,
-    pub work_left: u64,
-    pub bytes_left: u64,
+    pub answer: Option<Answer>,
+    pub left: Left,
 }

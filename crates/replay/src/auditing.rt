@@ -1,7 +1,7 @@
 //! Two books, each with any sheet of calls of its own.
 ghost use Rattle.std.specs.Prelude.{◌≡◌, map};
-ghost use Rattle.calls.specs.Promise.{Agree, Promise};
-ghost use Rattle.calls.specs.Replied.{Replied, sheet, slots_left};
+ghost use Rattle.calls.specs.Promise.{Agree};
+ghost use Rattle.calls.specs.Replied.{WorkedOff, sheet};
 ghost use Rattle.calls.specs.Sheets.{calls_of, outcome_of};
 ghost use Rattle.digest.specs.Allowances.{allowance_of};
 
@@ -12,7 +12,7 @@ use calls::Line;
 use digest::budget::Budget;
 
 /// The two books, after their calls.
-pub struct Audited<A, B> {
+pub struct Audited<A: Filtering, B: Filtering> {
     pub one: Book<A>,
     pub other: Book<B>,
 }
@@ -20,6 +20,8 @@ pub struct Audited<A, B> {
 /// Works off a sheet of calls on each of two new books. Each keeps the promise; and on banks of one meaning, whatever
 /// their types, the two agree: accepted scans of the same run have the same hits, and where the one holds every filter
 /// that the other holds, it makes no more tries.
+// A bank, the bank beside it, an allowance and a sheet go in singly, as `replay` takes them: a struct of the four would be
+// taken apart at once, and could not serve `in_turn`, where two books share an allowance.
 pub fn audit<A: Filtering, B: Filtering, O: Filtering, Q: Filtering>(
     one: A,
     one_beside: &O,
@@ -32,8 +34,8 @@ pub fn audit<A: Filtering, B: Filtering, O: Filtering, Q: Filtering>(
 ) -> Audited<A, B>
     ensures same { (result.one.bank ≡ one) × (result.other.bank ≡ other) }
     ensures calls { (calls_of one_lines.new ≡ calls_of one_lines.old) × (calls_of other_lines.new ≡ calls_of other_lines.old) }
-    ensures one { let x = sheet (O.Matching.meaning one_beside.now) (A.Matching.meaning one) (allowance_of one_budget.old) (allowance_of one_budget.new) one_lines.old one_lines.new in (result.one.slots.table ≡ slots_left x) × ((Replied x (map outcome_of one_lines.old)) × (Promise x)) }
-    ensures other { let y = sheet (Q.Matching.meaning other_beside.now) (B.Matching.meaning other) (allowance_of other_budget.old) (allowance_of other_budget.new) other_lines.old other_lines.new in (result.other.slots.table ≡ slots_left y) × ((Replied y (map outcome_of other_lines.old)) × (Promise y)) }
+    ensures one { WorkedOff (sheet (O.Matching.meaning one_beside.now) (A.Matching.meaning one) (allowance_of one_budget.old) (allowance_of one_budget.new) one_lines.old one_lines.new) (map outcome_of one_lines.old) result.one.slots.table }
+    ensures other { WorkedOff (sheet (Q.Matching.meaning other_beside.now) (B.Matching.meaning other) (allowance_of other_budget.old) (allowance_of other_budget.new) other_lines.old other_lines.new) (map outcome_of other_lines.old) result.other.slots.table }
     ensures agree { let x = sheet (O.Matching.meaning one_beside.now) (A.Matching.meaning one) (allowance_of one_budget.old) (allowance_of one_budget.new) one_lines.old one_lines.new in
         let y = sheet (Q.Matching.meaning other_beside.now) (B.Matching.meaning other) (allowance_of other_budget.old) (allowance_of other_budget.new) other_lines.old other_lines.new in
         (A.Matching.meaning one ≡ B.Matching.meaning other → Agree x y × Agree y x) }

@@ -2,7 +2,7 @@
 ghost use Rattle.std.specs.Prelude.{◌≡◌, ◌++◌, map};
 ghost use Rattle.calls.specs.Events.{beside, leaves};
 ghost use Rattle.calls.specs.Promise.{AddsUp, Promise};
-ghost use Rattle.calls.specs.Replied.{Replied, sheet, slots_left};
+ghost use Rattle.calls.specs.Replied.{Replied, WorkedOff, sheet};
 ghost use Rattle.calls.specs.Sheets.{calls_of, event_of, outcome_of};
 ghost use Rattle.digest.specs.Allowances.{allowance_of};
 
@@ -13,7 +13,7 @@ use calls::Line;
 use digest::budget::Budget;
 
 /// The bank of the first book, which is ended, and the second book.
-pub struct Turns<A, B> {
+pub struct Turns<A, B: Filtering> {
     pub ended: A,
     pub book: Book<B>,
 }
@@ -39,7 +39,7 @@ pub fn in_turn<A: Filtering, B: Filtering, O: Filtering, Q: Filtering>(
         (Replied x (map outcome_of first_lines.old)) × (Promise x) }
     ensures second { let between = leaves (A.Matching.meaning first) (allowance_of budget.old) (map (event_of (O.Matching.meaning first_beside.now)) first_lines.old) in
         let y = sheet (Q.Matching.meaning second_beside.now) (B.Matching.meaning second) between (allowance_of budget.new) second_lines.old second_lines.new in
-        (result.book.slots.table ≡ slots_left y) × ((Replied y (map outcome_of second_lines.old)) × (Promise y)) }
+        WorkedOff y (map outcome_of second_lines.old) result.book.slots.table }
     ensures adds_up { let calls = map (event_of (O.Matching.meaning first_beside.now)) first_lines.old in
         let more = map (event_of (Q.Matching.meaning second_beside.now)) second_lines.old in
         AddsUp (B.Matching.meaning second) (allowance_of budget.old) (map (beside (A.Matching.meaning first)) calls ++ more) (allowance_of budget.new) }

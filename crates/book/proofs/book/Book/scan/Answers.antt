@@ -1,8 +1,8 @@
-use Rattle.std.proofs.Common.{◌≡◌, ◌<◌, ◌≤◌, length, sym, refl, ap, ◌∙◌, arith}
+use Rattle.std.proofs.Common.{◌<◌, ◌≤◌, length, sym, refl, ap, ◌∙◌, arith}
 use Rattle.answers.specs.Questions.{place_refused}
 use Rattle.bank.proofs.Searching.{answer_is}
 use Rattle.book.specs.declared.book.Look.{Look}
-use Rattle.book.proofs.Scanning.{run_passed, scanned_all, scanned_full, scanned_hit, scanned_miss}
+use Rattle.book.proofs.Scanning.{run_passed, scanned_full, scanned_hit, scanned_miss}
 use Rattle.book.proofs.book.Book.scan.Goals as goal
 use Rattle.book.proofs.book.Book.scan.Goals.{in-Some+else-found-hits, in_default}
 
@@ -38,13 +38,3 @@ loop-place-preserved g c =
           scanned_miss bank slots run old place c.loop-place.found c.loop-place.tries c.loop-place.hits c.loop-place.invariant _ _ _
           (ap (λ (l : Look). l.hit) look ∙ w.in_default.is) tries few w.found-is w.hits-is
     ]
-
-pub returns : goal.returns
-returns g c =
-    let bank = g.B.Matching.meaning c.args.self.now.bank in
-    let run = c.args.run.now in
-    let few = run_passed (length run) _ c.in_ok-ask_run.ensures in
-    let end : c.loop-place.place ≡ length run = omega arith in
-    let w = scanned_all bank c.args.self.now.slots.table run c.args.hits.now c.loop-place.place c.loop-place.found c.loop-place.tries c.loop-place.hits
-    c.loop-place.invariant few end in
-    record { answer = w.0; list = w.1 }

@@ -1,13 +1,11 @@
-use Rattle.std.proofs.Common.{◌≡◌, ℕ, ◌<◌, true, false, ◌&&◌, length, sym, ap, ◌∙◌, arith}
-use Rattle.std.proofs.lemmas.Bool.{and_from, and_left, and_right}
+use Rattle.std.proofs.Common.{ℕ, ◌<◌, true, ◌&&◌, length, sym, arith}
+use Rattle.std.proofs.lemmas.Bool.{and_from}
 use Rattle.answers.specs.Questions.{list_refused}
 use Rattle.bank.proofs.Searching.{answer_is, passed}
-use Rattle.opentype.proofs.Matched.{any_met, any_more}
-use Rattle.opentype.specs.Matching.{any_below}
+use Rattle.opentype.proofs.Matched.{any_met}
 use Rattle.opentype.specs.Meaning.{subtable}
 use Rattle.book.specs.Scans.{may_try}
 use Rattle.book.proofs.book.Book.would_apply.Goals as goal
-use Rattle.book.proofs.book.Book.would_apply.Goals.{else-may_try-via-then-may_try+in_ok-would_apply+else-branch, else-may_try-via-else-may_try}
 
 pub returns-then-branch : goal.returns-then-branch
 returns-then-branch g c =
@@ -21,28 +19,3 @@ returns-then-branch g c =
     let test = λ (k : ℕ). may_try slots glyphs 0 k && (subtable bank k).matching.applies glyphs bare in
     let yes = any_met test (length bank) k below (and_from _ _ (sym c.if-may_try.ensures.value) applies) in
     record { value = passed (list_refused (length glyphs)) _ true _ c.in_ok-ask_list.ensures yes }
-
-pub loop-k-preserved : goal.loop-k-preserved
-loop-k-preserved g c =
-    let bank = g.B.Matching.meaning c.args.self.now.bank in
-    let slots = c.args.self.now.slots.table in
-    let glyphs = c.args.glyphs.now in
-    let bare = c.args.zero_context in
-    let k = c.loop-k.k in
-    let test = λ (k : ℕ). may_try slots glyphs 0 k && (subtable bank k).matching.applies glyphs bare in
-    any_more test k c.loop-k.invariant
-    (elim c.else-may_try.branch [
-      | else-may_try-via-then-may_try+in_ok-would_apply+else-branch w ↦
-          and_right _ _ (answer_is (list_refused (length glyphs)) _ ((subtable bank k).matching.applies glyphs bare) false w.in_ok-would_apply.ensures.value w.if-branch.false)
-      | else-may_try-via-else-may_try w ↦ and_left _ _ (sym w.if-may_try.ensures.value)
-    ])
-
-pub returns : goal.returns
-returns g c =
-    let bank = g.B.Matching.meaning c.args.self.now.bank in
-    let slots = c.args.self.now.slots.table in
-    let glyphs = c.args.glyphs.now in
-    let bare = c.args.zero_context in
-    let end : c.loop-k.k ≡ length bank = omega arith in
-    let test = λ (k : ℕ). may_try slots glyphs 0 k && (subtable bank k).matching.applies glyphs bare in
-    record { value = passed (list_refused (length glyphs)) _ false _ c.in_ok-ask_list.ensures (sym c.loop-k.invariant ∙ ap (any_below test) end) }
