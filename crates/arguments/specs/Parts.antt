@@ -44,4 +44,4 @@ wide_of kind ws =
     and_then (exactly (range_count kind + 1) ws) (λ _. and_then (next_word ws) (λ table. and_then (parts_by kind table.1) (λ ranges. Ok (table.0, ranges))))
 
 abbrev pub open_wide_of : List (List ℕ) → Result (List ℕ × WideParts) Fault
-open_wide_of ws = and_then (first_two ws) (λ p. and_then (kind_in p.0 p.1) (λ kind. wide_of kind p.2))
+open_wide_of ws = and_then (first_two ws) (λ p. and_then (kind_in p.0.0 p.0.1) (λ kind. wide_of kind p.1))

@@ -3,7 +3,6 @@ ghost use Rattle.std.specs.Prelude.{◌≡◌};
 ghost use Rattle.arguments.specs.Kinds.{chained_in, kind_in, range_count};
 
 use words::fault::Fault;
-use words::line::same;
 
 /// A kind of wide subtables.
 #[derive(Clone, Copy)]
@@ -19,21 +18,21 @@ impl WideKind {
     pub(crate) fn named(kind: &[u8], chained: &[u8]) -> Result<WideKind, Fault>
         ensures { result ≡ kind_in kind.now chained.now }
     {
+        // Not a `match` on the bytes: tried, and its proof did not close.
         let chained = is_chained(chained)?;
-        if same(kind, b"glyphs") {
-            return Ok(WideKind::Glyphs { chained });
-        }
-        if same(kind, b"classes") {
-            return Ok(if chained {
+        if kind == b"glyphs".as_slice() {
+            Ok(WideKind::Glyphs { chained })
+        } else if kind == b"classes".as_slice() {
+            Ok(if chained {
                 WideKind::ChainedClasses
             } else {
                 WideKind::PlainClasses
-            });
+            })
+        } else if kind == b"coverages".as_slice() && !chained {
+            Ok(WideKind::Coverages)
+        } else {
+            Err(Fault::UnknownKind)
         }
-        if same(kind, b"coverages") && !chained {
-            return Ok(WideKind::Coverages);
-        }
-        Err(Fault::UnknownKind)
     }
 
     /// How many byte ranges a subtable of the kind has.
@@ -53,11 +52,11 @@ impl WideKind {
 pub(crate) fn is_chained(word: &[u8]) -> Result<bool, Fault>
     ensures { result ≡ chained_in word.now }
 {
-    if same(word, b"plain") {
-        return Ok(false);
+    if word == b"plain".as_slice() {
+        Ok(false)
+    } else if word == b"chained".as_slice() {
+        Ok(true)
+    } else {
+        Err(Fault::UnknownKind)
     }
-    if same(word, b"chained") {
-        return Ok(true);
-    }
-    Err(Fault::UnknownKind)
 }

@@ -1,9 +1,10 @@
 //! The byte ranges in which the parts of a wide subtable lie.
-ghost use Rattle.std.specs.Prelude.{◌≡◌, Ok, Err, MatchResult};
+ghost use Rattle.std.specs.Prelude.{◌≡◌};
+ghost use Rattle.arguments.specs.Counts.{Answered, Taken};
 ghost use Rattle.arguments.specs.Parts.{chained_class_parts, coverage_parts, glyph_parts, next_range, open_wide_of, parts_by, plain_class_parts};
 ghost use Rattle.words.specs.Words.{words_in};
 
-use crate::counts::{first_two, so_many};
+use crate::counts::{first_two, next_word, so_many};
 use crate::kinds::WideKind;
 use opening::wide::{ByteRange, WideParts};
 use words::fault::Fault;
@@ -12,12 +13,9 @@ use words::numbers::range;
 
 /// Takes the next word as a range.
 fn next_range(words: &mut Words<'_>) -> Result<ByteRange, Fault>
-    ensures { let before = words_in words.old.rest.now in MatchResult result (λ x. next_range before ≡ Ok (x, words_in words.new.rest.now)) (λ f. next_range before ≡ Err f) }
+    ensures { Taken next_range (λ x. x) (words_in words.old.rest.now) result (words_in words.new.rest.now) }
 {
-    let Some(word) = words.next_word() else {
-        return Err(Fault::MissingWord);
-    };
-    let (start, end) = range(word)?;
+    let (start, end) = range(next_word(words)?)?;
     Ok(ByteRange { start, end })
 }
 
@@ -25,12 +23,10 @@ fn next_range(words: &mut Words<'_>) -> Result<ByteRange, Fault>
 fn glyph_parts(mut words: Words<'_>, chained: bool) -> Result<WideParts, Fault>
     ensures { result ≡ glyph_parts chained (words_in words.entry.rest.now) }
 {
-    let coverage = next_range(&mut words)?;
-    let sets = next_range(&mut words)?;
     Ok(WideParts::Glyphs {
         chained,
-        coverage,
-        sets,
+        coverage: next_range(&mut words)?,
+        sets: next_range(&mut words)?,
     })
 }
 
@@ -38,13 +34,10 @@ fn glyph_parts(mut words: Words<'_>, chained: bool) -> Result<WideParts, Fault>
 fn plain_class_parts(mut words: Words<'_>) -> Result<WideParts, Fault>
     ensures { result ≡ plain_class_parts (words_in words.entry.rest.now) }
 {
-    let coverage = next_range(&mut words)?;
-    let input = next_range(&mut words)?;
-    let sets = next_range(&mut words)?;
     Ok(WideParts::PlainClasses {
-        coverage,
-        input,
-        sets,
+        coverage: next_range(&mut words)?,
+        input: next_range(&mut words)?,
+        sets: next_range(&mut words)?,
     })
 }
 
@@ -52,17 +45,12 @@ fn plain_class_parts(mut words: Words<'_>) -> Result<WideParts, Fault>
 fn chained_class_parts(mut words: Words<'_>) -> Result<WideParts, Fault>
     ensures { result ≡ chained_class_parts (words_in words.entry.rest.now) }
 {
-    let coverage = next_range(&mut words)?;
-    let backtrack = next_range(&mut words)?;
-    let input = next_range(&mut words)?;
-    let lookahead = next_range(&mut words)?;
-    let sets = next_range(&mut words)?;
     Ok(WideParts::ChainedClasses {
-        coverage,
-        backtrack,
-        input,
-        lookahead,
-        sets,
+        coverage: next_range(&mut words)?,
+        backtrack: next_range(&mut words)?,
+        input: next_range(&mut words)?,
+        lookahead: next_range(&mut words)?,
+        sets: next_range(&mut words)?,
     })
 }
 
@@ -70,9 +58,10 @@ fn chained_class_parts(mut words: Words<'_>) -> Result<WideParts, Fault>
 fn coverage_parts(mut words: Words<'_>) -> Result<WideParts, Fault>
     ensures { result ≡ coverage_parts (words_in words.entry.rest.now) }
 {
-    let offsets = next_range(&mut words)?;
-    let records = next_range(&mut words)?;
-    Ok(WideParts::Coverages { offsets, records })
+    Ok(WideParts::Coverages {
+        offsets: next_range(&mut words)?,
+        records: next_range(&mut words)?,
+    })
 }
 
 /// The ranges of a wide subtable of a kind.
@@ -89,14 +78,11 @@ fn parts_by(kind: WideKind, words: Words<'_>) -> Result<WideParts, Fault>
 
 /// The word that writes a wide subtable's bytes, and its ranges.
 pub fn table_and_parts<'a>(mut words: Words<'a>) -> Result<(&'a [u8], WideParts), Fault>
-    ensures { MatchResult result (λ p. open_wide_of (words_in words.entry.rest.now) ≡ Ok (p.0.now, p.1)) (λ f. open_wide_of (words_in words.entry.rest.now) ≡ Err f) }
+    ensures { Answered (open_wide_of (words_in words.entry.rest.now)) (λ p. (p.0.now, p.1)) result }
 {
     let (kind, chained) = first_two(&mut words)?;
     let kind = WideKind::named(kind, chained)?;
     so_many(words, kind.range_count() + 1)?;
-    let Some(table) = words.next_word() else {
-        return Err(Fault::MissingWord);
-    };
-    let parts = parts_by(kind, words)?;
-    Ok((table, parts))
+    let table = next_word(&mut words)?;
+    Ok((table, parts_by(kind, words)?))
 }

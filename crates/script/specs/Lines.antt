@@ -3,7 +3,7 @@ use Rattle.std.specs.Prelude.{ℕ, ◌^◌, Bool, cond, List, [], ◌∷◌, Som
 use Rattle.arguments.specs.Counts.{and_then, none_of}
 use Rattle.arguments.specs.Parts.{open_wide_of}
 use Rattle.arguments.specs.Simple.{applies_of, count_of, flag_of, hit_of, number_of, numbers_of, open_of, table_of}
-use Rattle.words.specs.Bytes.{pieces}
+use Rattle.std.specs.List.{flat_map, slice_split}
 use Rattle.words.specs.Hex.{hex_in}
 use Rattle.words.specs.Numbers.{decimal_in}
 use Rattle.opening.specs.declared.wide.WideParts.{WideParts}
@@ -97,4 +97,4 @@ line_said line = cond (slice_index line 0 == 35) [] (words_said (words_in line))
 
 -- what the lines of a text say, in order
 abbrev pub script_in : List ℕ → List (Result Said Fault)
-script_in text = pieces 10 line_said [] text
+script_in text = flat_map line_said (slice_split (λ c. c == 10) text)

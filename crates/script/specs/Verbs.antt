@@ -1,5 +1,6 @@
 -- The first words of commands.
-use Rattle.std.specs.Prelude.{ℕ, cond, List, [], ◌∷◌, Some, None, codes, Option}
+use Rattle.std.specs.Prelude.{ℕ, List, [], ◌∷◌, codes, Option}
+use Rattle.std.specs.List.{find}
 use Rattle.std.specs.Str.{bytes_eq}
 use Rattle.script.specs.declared.command.Verb.{Verb}
 use Rattle.script.specs.declared.command.Verb.TheVariants.{Coverage, Class, DigestOf, DigestSpan, Allowance, Left, Open, OpenWide, Hit, Applies, Aside, Masks, Words, Book, OnBook}
@@ -37,11 +38,6 @@ name_of (OnBook v) = book_name_of v
 abbrev pub verbs : List Verb
 verbs = Coverage ∷ Class ∷ DigestOf ∷ DigestSpan ∷ Allowance ∷ Left ∷ Open ∷ OpenWide ∷ Hit ∷ Applies ∷ Aside ∷ Masks ∷ Words ∷ Book ∷ OnBook Filter ∷ OnBook Forget ∷ OnBook State ∷ OnBook WouldApply ∷ OnBook Scan ∷ OnBook MasksBeside ∷ OnBook WordsBeside ∷ OnBook Anew ∷ OnBook End ∷ []
 
--- the first of these verbs that a word names
-abbrev pub first_named : List ℕ → List Verb → Option Verb
-first_named w [] = None
-first_named w (v ∷ vs) = cond (bytes_eq w (name_of v)) (Some v) (first_named w vs)
-
--- the verb that a word names
+-- the first of the verbs that a word names
 abbrev pub verb_in : List ℕ → Option Verb
-verb_in w = first_named w verbs
+verb_in w = find (λ v. bytes_eq w (name_of v)) verbs

@@ -1,10 +1,8 @@
 //! The commands of a script.
 ghost use Rattle.std.specs.Prelude.{◌≡◌};
-ghost use Rattle.script.specs.Verbs.{book_name_of, first_named, name_of, verb_in};
+ghost use Rattle.script.specs.Verbs.{book_name_of, name_of, verb_in};
 
 use opening::wide::WideParts;
-use words::line::same;
-use words::span::Span;
 
 /// The first word of a command.
 #[derive(Clone, Copy)]
@@ -40,22 +38,22 @@ pub enum BookVerb {
     End,
 }
 
-/// A command with its arguments. Bytes and glyphs stand in the script's buffers.
-#[derive(Clone, Copy)]
+/// A command with its arguments.
+#[derive(Drop)]
 pub enum Command {
     /// Asks the coverage table in these bytes for a glyph.
     Coverage {
-        table: Span,
+        table: Vec<u8>,
         glyph: u32,
     },
     /// Asks the class table in these bytes for a glyph.
     Class {
-        table: Span,
+        table: Vec<u8>,
         glyph: u32,
     },
     /// Adds these glyphs to an empty digest.
     DigestOf {
-        glyphs: Span,
+        glyphs: Vec<u32>,
     },
     /// Adds the glyphs from `first` to `last` to an empty digest.
     DigestSpan {
@@ -71,25 +69,25 @@ pub enum Command {
     Left,
     /// Opens the subtable in these bytes.
     Open {
-        table: Span,
+        table: Vec<u8>,
         chained: bool,
     },
     /// Opens the subtable of a wide kind in these bytes.
     OpenWide {
-        table: Span,
+        table: Vec<u8>,
         parts: WideParts,
     },
     /// Asks a listed subtable for the hit at a place of a run.
     Hit {
         subtable: u32,
         place: usize,
-        glyphs: Span,
+        glyphs: Vec<u32>,
     },
     /// Asks a listed subtable whether it would apply to a list of glyphs.
     Applies {
         subtable: u32,
         zero_context: bool,
-        glyphs: Span,
+        glyphs: Vec<u32>,
     },
     /// Puts the last listed subtable aside.
     Aside,
@@ -108,23 +106,40 @@ pub enum Command {
     OnBook(BookCommand),
 }
 
-/// A command on a book. Glyphs stand in the script's buffer.
-#[derive(Clone, Copy)]
+/// A command on a book.
+#[derive(Drop)]
 pub enum BookCommand {
     /// Filters a subtable.
-    Filter { subtable: u32 },
+    Filter {
+        subtable: u32,
+    },
     /// Forgets the filter of a subtable.
-    Forget { subtable: u32 },
+    Forget {
+        subtable: u32,
+    },
     /// Asks for the state of a slot.
-    State { subtable: u32 },
+    State {
+        subtable: u32,
+    },
     /// Asks whether some subtable would apply to a list of glyphs.
-    WouldApply { zero_context: bool, glyphs: Span },
+    WouldApply {
+        zero_context: bool,
+        glyphs: Vec<u32>,
+    },
     /// Lists the hits of a run in a list of so many entries.
-    Scan { count: u32, glyphs: Span },
+    Scan {
+        count: u32,
+        glyphs: Vec<u32>,
+    },
     /// Puts the filter call to the bank beside.
-    MasksBeside { subtable: u32 },
+    MasksBeside {
+        subtable: u32,
+    },
     /// Fills the rule-set words of a subtable that was put aside into a buffer of so many words.
-    WordsBeside { subtable: u32, count: u32 },
+    WordsBeside {
+        subtable: u32,
+        count: u32,
+    },
     /// Ends the book and starts another on the same bank.
     Anew,
     /// Ends the book.
@@ -205,18 +220,9 @@ impl Verb {
     pub fn named(word: &[u8]) -> Option<Verb>
         ensures { result ≡ verb_in word.now }
     {
-        first_named(word, &Self::ALL)
+        Self::ALL
+            .iter()
+            .copied()
+            .find(|verb| word == verb.name().as_bytes())
     }
-}
-
-/// The first of these verbs that a word names.
-fn first_named(word: &[u8], verbs: &[Verb]) -> Option<Verb>
-    ensures { result ≡ first_named word.now verbs.now }
-{
-    for verb in verbs {
-        if same(word, verb.name().as_bytes()) {
-            return Some(*verb);
-        }
-    }
-    None
 }

@@ -1,6 +1,4 @@
 mod Counting
-pub mod Cutting
 mod Pairing
-mod Ranging
-mod Steps
-mod Wording
+pub mod Searching
+pub mod Wording

@@ -1,4 +1,5 @@
 pub mod Bytes
 pub mod Hex
 pub mod Numbers
+pub mod Reading
 pub mod Words

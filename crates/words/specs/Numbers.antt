@@ -1,7 +1,8 @@
 -- Decimal numbers without a sign, and ranges of them.
 use Rattle.std.specs.Prelude.{ℕ, ◌+◌, ◌-◌, ◌*◌, ◌^◌, Bool, cond, ◌&&◌, List, [], ◌∷◌, length, take, drop, Ok, Err, Result, ◌==◌, nat_le, nat_lt, slice_index}
 use Rattle.std.specs.Char.{is_ascii_digit}
-use Rattle.words.specs.Bytes.{every, index_of}
+use Rattle.std.specs.List.{list_all}
+use Rattle.words.specs.Bytes.{index_of}
 use Rattle.words.specs.declared.fault.Fault.{Fault}
 use Rattle.words.specs.declared.fault.Fault.TheVariants.{NotANumber, NotARange, NumberTooLarge}
 
@@ -17,7 +18,7 @@ below limit n = cond (nat_lt n limit) (Ok n) (Err NumberTooLarge)
 -- the number below the limit that a word writes: one digit or more, and nothing else
 abbrev pub decimal_in : ℕ → List ℕ → Result ℕ Fault
 decimal_in limit [] = Err NotANumber
-decimal_in limit (c ∷ cs) = cond (every is_ascii_digit (c ∷ cs)) (below limit (value_after 0 (c ∷ cs))) (Err NotANumber)
+decimal_in limit (c ∷ cs) = cond (list_all is_ascii_digit (c ∷ cs)) (below limit (value_after 0 (c ∷ cs))) (Err NotANumber)
 
 -- whether a number that was read is 1
 abbrev pub is_one : Result ℕ Fault → Result Bool Fault

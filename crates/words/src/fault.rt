@@ -1,41 +1,62 @@
 //! Why a line cannot be read.
-use std::fmt;
+ghost use Rattle.words.specs.declared.fault.Unread.TheVariants as unread;
+ghost use Rattle.std.specs.Prelude.{◌≡◌, alloc_error};
+
+use std::alloc::{AllocError, AllocFailed};
+use thiserror::Error;
 
 /// Why a line cannot be read.
-#[derive(Clone, Copy)]
+#[derive(Clone, Copy, Debug, PartialEq, Eq, Drop, Error)]
 pub enum Fault {
+    #[error("unknown command")]
     UnknownCommand,
+    #[error("a word is missing")]
     MissingWord,
+    #[error("a word too many")]
     ExtraWord,
+    #[error("not a decimal number")]
     NotANumber,
+    #[error("a number too large")]
     NumberTooLarge,
+    #[error("not a range")]
     NotARange,
+    #[error("unknown kind of subtable")]
     UnknownKind,
+    #[error("not hexadecimal")]
     NotHex,
+    #[error("an odd number of hexadecimal digits")]
     OddHex,
-    NoMemory,
 }
 
-impl Fault {
-    /// The reason in words.
-    fn text(self) -> &'static str {
-        match self {
-            Fault::UnknownCommand => "unknown command",
-            Fault::MissingWord => "a word is missing",
-            Fault::ExtraWord => "a word too many",
-            Fault::NotANumber => "not a decimal number",
-            Fault::NumberTooLarge => "a number too large",
-            Fault::NotARange => "not a range",
-            Fault::UnknownKind => "unknown kind of subtable",
-            Fault::NotHex => "not hexadecimal",
-            Fault::OddHex => "an odd number of hexadecimal digits",
-            Fault::NoMemory => "no memory",
-        }
+/// Why there is nothing that was read: a fault of the line, or no memory for what the line says.
+#[derive(Clone, Copy, Debug, PartialEq, Eq, Drop, Error)]
+pub enum Unread {
+    #[error(transparent)]
+    Fault(Fault),
+    #[error("no memory")]
+    NoMemory(AllocError),
+}
+
+impl From<Fault> for Unread {
+    ghost from_gives = { λ fault it. it ≡ unread.Fault fault };
+
+    fn from(fault: Fault) -> Unread {
+        Unread::Fault(fault)
     }
 }
 
-impl fmt::Display for Fault {
-    fn fmt<W: fmt::Write>(&self, f: &mut fmt::Formatter<W>) -> fmt::Result {
-        f.write_str(self.text())
+impl From<AllocError> for Unread {
+    ghost from_gives = { λ error it. it ≡ unread.NoMemory error };
+
+    fn from(error: AllocError) -> Unread {
+        Unread::NoMemory(error)
+    }
+}
+
+impl<T: Drop> From<AllocFailed<T>> for Unread {
+    ghost from_gives = { λ _ it. it ≡ unread.NoMemory alloc_error };
+
+    fn from(failed: AllocFailed<T>) -> Unread {
+        Unread::NoMemory(failed.into())
     }
 }

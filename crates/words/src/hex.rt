@@ -1,28 +1,25 @@
 //! Bytes written as hexadecimal digits.
-ghost use Rattle.std.specs.Prelude.{◌≡◌, ◌+◌, ◌/◌, ◌<◌, ◌≤◌, ◌++◌, length, vec_len, vec_capacity};
+ghost use Rattle.std.specs.Prelude.{◌≡◌, ◌<◌, IsErrOf, alloc_error};
 ghost use Rattle.std.specs.Char.{is_ascii_hexdigit};
-ghost use Rattle.words.specs.Bytes.{every};
-ghost use Rattle.words.specs.Hex.{Appended, hex_in, nibble, pairs};
+ghost use Rattle.std.specs.List.{list_all};
+ghost use Rattle.words.specs.Hex.{NeedMemory, hex_in, nibble};
+ghost use Rattle.words.specs.Reading.{Read};
+ghost use Rattle.words.specs.declared.fault.Unread.TheVariants.{NoMemory};
 
-use crate::fault::Fault;
-use crate::span::Span;
+use crate::fault::{Fault, Unread};
+use std::alloc::Global;
 
 /// The word that stands for no bytes.
-const NO_BYTES: u8 = b'-';
+const NO_BYTES: &[u8] = b"-";
 
 /// Whether every byte is a hexadecimal digit.
 fn all_hex(word: &[u8]) -> bool
-    ensures { result ≡ every is_ascii_hexdigit word.now }
+    ensures { result ≡ list_all is_ascii_hexdigit word.now }
 {
-    for b in word {
-        if !b.is_ascii_hexdigit() {
-            return false;
-        }
-    }
-    true
+    word.iter().all(|b| b.is_ascii_hexdigit())
 }
 
-/// The value of a hexadecimal digit.
+/// The value of a hexadecimal digit. A `to_digit` would be unwrapped and narrowed here, which is no plainer.
 fn digit(b: u8) -> u8
     ensures value { result ≡ nibble b }
     ensures bound { result < 16 }
@@ -35,36 +32,25 @@ fn digit(b: u8) -> u8
     }
 }
 
-/// Appends the bytes that the pairs of digits write.
-fn decode(word: &[u8], bytes: &mut Vec<u8>)
-    requires { vec_len bytes.old + length word.now / 2 ≤ vec_capacity bytes.old }
-    ensures { bytes.new.items ≡ bytes.old.items ++ pairs word.now }
+/// The bytes that a word writes.
+pub fn hex(heap: Global, word: &[u8]) -> Result<Vec<u8>, Unread>
+    ensures value { Read (hex_in word.now) (λ v. v.items) result }
+    ensures memory { IsErrOf result (NoMemory alloc_error) → NeedMemory (hex_in word.now) }
 {
-    for i in 0..word.len() / 2 {
-        bytes.push_reserved(digit(word[2 * i]) * 16 + digit(word[2 * i + 1]));
-    }
-}
-
-/// Appends the bytes that a word writes, and says where they stand. A word that is refused appends nothing.
-pub fn hex(word: &[u8], bytes: &mut Vec<u8>) -> Result<Span, Fault>
-    ensures { Appended (hex_in word.now) bytes.old bytes.new result }
-{
-    let start = bytes.len();
-    if word.len() == 1 && word[0] == NO_BYTES {
-        return Ok(Span { start, end: start });
+    if word == NO_BYTES {
+        return Ok(Vec::new(heap));
     }
     if !all_hex(word) {
-        return Err(Fault::NotHex);
+        return Err(Fault::NotHex.into());
     }
-    if word.len() % 2 != 0 {
-        return Err(Fault::OddHex);
+    let (pairs, rest) = word.as_chunks::<2>();
+    if !rest.is_empty() {
+        return Err(Fault::OddHex.into());
     }
-    let Ok(()) = bytes.reserve(word.len() / 2) else {
-        return Err(Fault::NoMemory);
-    };
-    decode(word, bytes);
-    Ok(Span {
-        start,
-        end: bytes.len(),
-    })
+    // Room for all of them at once, and no `collect`: memory lacks only where there is a byte to keep.
+    let mut bytes = Vec::with_capacity(heap, pairs.len())?;
+    for [high, low] in pairs {
+        bytes.push_reserved(digit(*high) * 16 + digit(*low));
+    }
+    Ok(bytes)
 }

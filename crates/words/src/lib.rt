@@ -5,4 +5,3 @@ pub mod fault;
 pub mod hex;
 pub mod line;
 pub mod numbers;
-pub mod span;

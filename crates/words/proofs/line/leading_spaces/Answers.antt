@@ -1,20 +1,14 @@
-use Rattle.std.proofs.Common.{arith}
-use Rattle.words.proofs.Steps.{leading_stops, leading_more, leading_all}
+use Rattle.std.proofs.Common.{◌≡◌, not, eqb, length, unwrap_or, ap, ◌∙◌, rules, tests}
+use Rattle.std.proofs.lemmas.Iterator.{YieldsList-from_slice}
+use Rattle.std.proofs.lemmas.Iterator.Search.{position_from_yields_List}
+use Rattle.std.specs.List.{position}
+use Rattle.words.proofs.Searching.{unwrap_position}
 use Rattle.words.proofs.line.leading_spaces.Goals as goal
 
-pub returns-then-x-ne-SPACE : goal.returns-then-x-ne-SPACE
-returns-then-x-ne-SPACE c =
-    record {
-      value = leading_stops 32 c.args.text.now c.loop-i.i (omega arith) c.loop-i.invariant c.if-x-ne-SPACE.true;
-      within = omega arith;
-    }
-
-pub loop-i-preserved : goal.loop-i-preserved
-loop-i-preserved c = leading_more 32 c.args.text.now c.loop-i.i (omega arith) c.loop-i.invariant c.if-x-ne-SPACE.false
-
-pub returns : goal.returns
-returns c =
-    record {
-      value = leading_all 32 c.args.text.now c.loop-i.i (omega arith) c.loop-i.invariant;
-      within = omega arith;
-    }
+pub returns-clause-value : goal.returns-clause-value
+returns-clause-value c =
+    let first : c.position.result ≡ position (λ x. not (eqb x 32)) c.args.text.now =
+    position_from_yields_List (λ x. not (eqb x 32)) _ _ c.position.result c.position.ensures.ran
+    (YieldsList-from_slice c.args.text.now cc)
+    (λ x b q k. search (rules, tests)) in
+    c.unwrap_or.ensures ∙ ap (λ o. unwrap_or o (length c.args.text.now)) first ∙ unwrap_position _ c.args.text.now

@@ -1,4 +1,0 @@
-mod Growing
-mod Naming
-mod Reading
-mod Refusing
