@@ -43,6 +43,7 @@ impl<'a> ContextSubtable for ChainContext3<'a> {
     ghost sound = { λ view. filters_sound (by_coverage (coverage_table_of view)) };
 
     fn applies(&self, glyphs: &[u32], zero_context: bool) -> bool {
+        // By `is_some_and` the proof did not close: what the closure answers was not known behind it.
         let Some(first) = glyphs.first() else {
             return false;
         };

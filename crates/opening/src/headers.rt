@@ -7,17 +7,28 @@ ghost use Rattle.readers.specs.Views.{parts_of};
 ghost use Rattle.tables.specs.Tables.{coverage_of};
 ghost use Rattle.context.specs.Meanings.{table_of};
 
-use context::classes::ChainContext2;
-use context::coverages::ChainContext3;
-use context::glyphs::ChainContext1;
+use context::classes::{ChainContext2, ClassSets};
+use context::coverages::{ChainContext3, CoverageRule};
+use context::glyphs::{ChainContext1, GlyphSets};
 use context::subtable::Subtable;
 use readers::bytes::number;
 use readers::uints::Uints;
 use readers::width::{Two, Width};
 use rules::parsed::ParsedRule;
 use rules::rule_sets::RuleSets;
+use rules::widths::RuleWidths;
+use std::marker::PhantomData;
 use tables::class::ClassDef;
 use tables::coverage::Coverage;
+
+/// The format of rules over glyphs.
+const GLYPH_FORMAT: u32 = 1;
+
+/// The format of rules over classes.
+const CLASS_FORMAT: u32 = 2;
+
+/// The format of one rule over coverages.
+const COVERAGE_FORMAT: u32 = 3;
 
 /// The bytes of a record.
 const RECORD_BYTES: usize = 4;
@@ -41,16 +52,34 @@ pub(crate) fn uints<'a>(bytes: &'a [u8], start: u32, count: u32) -> Uints<'a>
     }
 }
 
+/// Rule sets by their offsets.
+pub(crate) fn rule_sets<'a, F: RuleWidths>(
+    bytes: &'a [u8],
+    offsets: Uints<'a>,
+    chained: bool,
+) -> RuleSets<'a, F>
+    ensures bytes { result.bytes ≡ bytes.entry }
+    ensures offsets { result.offsets ≡ offsets.entry }
+    ensures chained { result.chained ≡ chained }
+{
+    RuleSets {
+        bytes,
+        offsets,
+        chained,
+        widths: PhantomData,
+    }
+}
+
 /// The subtable that `bytes` begin with: none where its format is unknown or a part of its header is not inside.
 pub(crate) fn header<'a>(bytes: &'a [u8], chained: bool) -> Option<Subtable<'a>>
     ensures { option_map table_of result ≡ header_in chained bytes.now }
 {
     match (word(bytes, 0), chained) {
-        (1, _) => glyphs(bytes, chained),
-        (2, false) => plain_classes(bytes),
-        (2, true) => chained_classes(bytes),
-        (3, false) => plain_coverages(bytes),
-        (3, true) => chained_coverages(bytes),
+        (GLYPH_FORMAT, _) => glyphs(bytes, chained),
+        (CLASS_FORMAT, false) => plain_classes(bytes),
+        (CLASS_FORMAT, true) => chained_classes(bytes),
+        (COVERAGE_FORMAT, false) => plain_coverages(bytes),
+        (COVERAGE_FORMAT, true) => chained_coverages(bytes),
         _ => None,
     }
 }
@@ -59,22 +88,10 @@ pub(crate) fn header<'a>(bytes: &'a [u8], chained: bool) -> Option<Subtable<'a>>
 fn glyphs<'a>(bytes: &'a [u8], chained: bool) -> Option<Subtable<'a>>
     ensures { option_map table_of result ≡ glyph_header chained bytes.now }
 {
-    let count = word(bytes, 4);
-    if 6 + 2 * count as usize > bytes.len() {
-        return None;
-    }
+    let offsets = Uints::counted::<Two>(bytes, 4, 0)?;
     Some(Subtable::Glyphs(ChainContext1 {
         coverage: Coverage::at(bytes, word(bytes, 2) as usize),
-        sets: RuleSets {
-            bytes,
-            offsets: Uints {
-                bytes,
-                start: 6,
-                count,
-            },
-            chained,
-        },
-        wide: false,
+        sets: GlyphSets::Narrow(rule_sets(bytes, offsets, chained)),
     }))
 }
 
@@ -82,58 +99,35 @@ fn glyphs<'a>(bytes: &'a [u8], chained: bool) -> Option<Subtable<'a>>
 fn plain_classes<'a>(bytes: &'a [u8]) -> Option<Subtable<'a>>
     ensures { option_map table_of result ≡ plain_class_header bytes.now }
 {
-    let count = word(bytes, 6);
-    if 8 + 2 * count as usize > bytes.len() {
-        return None;
-    }
+    let offsets = Uints::counted::<Two>(bytes, 6, 0)?;
     Some(Subtable::Classes(ChainContext2 {
         coverage: Coverage::at(bytes, word(bytes, 2) as usize),
         backtrack: ClassDef::Missing,
         input: ClassDef::at(bytes, word(bytes, 4) as usize),
         lookahead: ClassDef::Missing,
-        sets: RuleSets {
-            bytes,
-            offsets: Uints {
-                bytes,
-                start: 8,
-                count,
-            },
-            chained: false,
-        },
-        wide: false,
+        sets: ClassSets::Narrow(rule_sets(bytes, offsets, false)),
     }))
 }
 
-/// Chained format 2: format, coverage, backtrack, input and lookahead class, set count, set offsets.
+/// Chained format 2: format, coverage, backtrack, input and lookahead class, set count, set offsets. Apart from the plain
+/// one: they share but the coverage's place, so one text would be told all the others.
 fn chained_classes<'a>(bytes: &'a [u8]) -> Option<Subtable<'a>>
     ensures { option_map table_of result ≡ chained_class_header bytes.now }
 {
-    let count = word(bytes, 10);
-    if 12 + 2 * count as usize > bytes.len() {
-        return None;
-    }
+    let offsets = Uints::counted::<Two>(bytes, 10, 0)?;
     Some(Subtable::Classes(ChainContext2 {
         coverage: Coverage::at(bytes, word(bytes, 2) as usize),
         backtrack: ClassDef::at(bytes, word(bytes, 4) as usize),
         input: ClassDef::at(bytes, word(bytes, 6) as usize),
         lookahead: ClassDef::at(bytes, word(bytes, 8) as usize),
-        sets: RuleSets {
-            bytes,
-            offsets: Uints {
-                bytes,
-                start: 12,
-                count,
-            },
-            chained: true,
-        },
-        wide: false,
+        sets: ClassSets::Narrow(rule_sets(bytes, offsets, true)),
     }))
 }
 
 /// The first glyph's coverage, by the first of `count` offsets of the width `W` from `start` on: missing where there is
 /// none.
 pub(crate) fn first_coverage<'a, W: Width>(bytes: &'a [u8], start: u32, count: u32) -> Coverage<'a>
-    ensures { coverage_of result ≡ first_coverage W.Width.bytes bytes.now start count }
+    ensures { coverage_of result ≡ first_coverage W.Width.BYTES bytes.now start count }
 {
     if count == 0 {
         return Coverage::Missing;
@@ -154,18 +148,19 @@ fn plain_coverages<'a>(bytes: &'a [u8]) -> Option<Subtable<'a>>
     Some(Subtable::Coverages(ChainContext3 {
         bytes,
         coverage: first_coverage::<Two>(bytes, 6, count),
-        rule: ParsedRule {
+        rule: CoverageRule::Narrow(ParsedRule {
             backtrack: uints(bytes, 0, 0),
             input: uints(bytes, 8, count.saturating_sub(1)),
             lookahead: uints(bytes, 0, 0),
             records,
             record_count,
-        },
-        wide: false,
+            width: PhantomData,
+        }),
     }))
 }
 
 /// Chained format 3: format, then a count and offsets for backtrack, input and lookahead, then record count and records.
+/// Apart from the plain one, whose record count stands before the offsets.
 fn chained_coverages<'a>(bytes: &'a [u8]) -> Option<Subtable<'a>>
     ensures { option_map table_of result ≡ chained_coverage_header bytes.now }
 {
@@ -182,13 +177,13 @@ fn chained_coverages<'a>(bytes: &'a [u8]) -> Option<Subtable<'a>>
     Some(Subtable::Coverages(ChainContext3 {
         bytes,
         coverage: first_coverage::<Two>(bytes, input_place + 2, inputs),
-        rule: ParsedRule {
+        rule: CoverageRule::Narrow(ParsedRule {
             backtrack: uints(bytes, 4, backtracks),
             input: uints(bytes, input_place + 4, inputs.saturating_sub(1)),
             lookahead: uints(bytes, lookahead_place + 2, lookaheads),
             records: record_place + 2,
             record_count,
-        },
-        wide: false,
+            width: PhantomData,
+        }),
     }))
 }

@@ -55,11 +55,7 @@ fn grant<'a>(subtable: Option<Subtable<'a>>, budget: &mut Budget) -> Result<Subt
     ensures answer { told_of table_of result ≡ opened_by (option_map table_of subtable.entry) (allowance_of budget.old) }
     ensures left { allowance_of budget.new ≡ opening_left (option_map table_of subtable.entry) (allowance_of budget.old) }
 {
-    match subtable {
-        Some(subtable) => match draw_opening(&subtable, budget) {
-            Ok(()) => Ok(subtable),
-            Err(_) => Err(Refusal::Exhausted),
-        },
-        None => Err(Refusal::Unopenable),
-    }
+    let subtable = subtable.ok_or(Refusal::Unopenable)?;
+    draw_opening(&subtable, budget)?;
+    Ok(subtable)
 }

@@ -9,15 +9,17 @@ ghost use Rattle.tables.specs.Tables.{classes_of, coverage_of};
 ghost use Rattle.context.specs.Meanings.{table_of};
 ghost use Rattle.opening.specs.Wide.{offset_parts, parts_of, range_of};
 
-use crate::headers::{first_coverage, uints};
-use context::classes::ChainContext2;
-use context::coverages::ChainContext3;
-use context::glyphs::ChainContext1;
+use crate::headers::{first_coverage, rule_sets, uints};
+use context::classes::{ChainContext2, ClassSets};
+use context::coverages::{ChainContext3, CoverageRule};
+use context::glyphs::{ChainContext1, GlyphSets};
 use context::subtable::Subtable;
 use readers::uints::Uints;
 use readers::width::Three;
 use rules::parsed::ParsedRule;
 use rules::rule_sets::RuleSets;
+use rules::widths::RuleWidths;
+use std::marker::PhantomData;
 use tables::class::ClassDef;
 use tables::coverage::Coverage;
 
@@ -71,31 +73,21 @@ fn is_within(bytes: &[u8], range: ByteRange) -> bool
 fn part<'a>(bytes: &'a [u8], range: ByteRange) -> Option<&'a [u8]>
     ensures { option_map (λ x. x.now) result ≡ part_of bytes.now (range_of range) }
 {
-    if is_within(bytes, range) {
-        Some(&bytes[range.start as usize..range.end as usize])
-    } else {
-        None
-    }
+    bytes.get(range.start as usize..range.end as usize)
 }
 
 /// The coverage table in a range: missing where the range is not inside.
 fn coverage_in<'a>(bytes: &'a [u8], range: ByteRange) -> Coverage<'a>
     ensures { coverage_of result ≡ coverage_in (part_of bytes.now (range_of range)) }
 {
-    match part(bytes, range) {
-        Some(table) => Coverage::new(table),
-        None => Coverage::Missing,
-    }
+    part(bytes, range).map_or(Coverage::Missing, |table| Coverage::new(table))
 }
 
 /// The class table in a range: missing where the range is not inside.
 fn classes_in<'a>(bytes: &'a [u8], range: ByteRange) -> ClassDef<'a>
     ensures { classes_of result ≡ classes_in (part_of bytes.now (range_of range)) }
 {
-    match part(bytes, range) {
-        Some(table) => ClassDef::new(table),
-        None => ClassDef::Missing,
-    }
+    part(bytes, range).map_or(ClassDef::Missing, |table| ClassDef::new(table))
 }
 
 /// The whole offsets of three bytes in a range: none where the range is not inside.
@@ -110,16 +102,12 @@ fn offsets_in<'a>(bytes: &'a [u8], range: ByteRange) -> Uints<'a>
 }
 
 /// Rule sets by the offsets in a range.
-fn sets_in<'a>(bytes: &'a [u8], range: ByteRange, chained: bool) -> RuleSets<'a>
+fn sets_in<'a, F: RuleWidths>(bytes: &'a [u8], range: ByteRange, chained: bool) -> RuleSets<'a, F>
     ensures bytes { result.bytes.now ≡ bytes.now }
     ensures offsets { uints_parts result.offsets ≡ offset_parts bytes.now range }
     ensures chained { result.chained ≡ chained }
 {
-    RuleSets {
-        bytes,
-        offsets: offsets_in(bytes, range),
-        chained,
-    }
+    rule_sets(bytes, offsets_in(bytes, range), chained)
 }
 
 /// A coverage subtable by its offsets and its records: none where the records are not inside.
@@ -134,7 +122,7 @@ fn coverages<'a>(bytes: &'a [u8], offsets: ByteRange, records: ByteRange) -> Opt
     Some(Subtable::Coverages(ChainContext3 {
         bytes,
         coverage: first_coverage::<Three>(bytes, inputs.start, inputs.count),
-        rule: ParsedRule {
+        rule: CoverageRule::Wide(ParsedRule {
             backtrack: uints(bytes, 0, 0),
             input: uints(
                 bytes,
@@ -144,8 +132,8 @@ fn coverages<'a>(bytes: &'a [u8], offsets: ByteRange, records: ByteRange) -> Opt
             lookahead: uints(bytes, 0, 0),
             records: records.start as usize,
             record_count: (records.end - records.start) / RECORD_BYTES,
-        },
-        wide: true,
+            width: PhantomData,
+        }),
     }))
 }
 
@@ -162,8 +150,11 @@ pub(crate) fn wide_header<'a>(bytes: &'a [u8], parts: WideParts) -> Option<Subta
             sets,
         } => Some(Subtable::Glyphs(ChainContext1 {
             coverage: coverage_in(bytes, coverage),
-            sets: sets_in(bytes, sets, chained),
-            wide: true,
+            sets: if chained {
+                GlyphSets::WideChained(sets_in(bytes, sets, true))
+            } else {
+                GlyphSets::Wide(sets_in(bytes, sets, false))
+            },
         })),
         WideParts::PlainClasses {
             coverage,
@@ -174,8 +165,7 @@ pub(crate) fn wide_header<'a>(bytes: &'a [u8], parts: WideParts) -> Option<Subta
             backtrack: ClassDef::Missing,
             input: classes_in(bytes, input),
             lookahead: ClassDef::Missing,
-            sets: sets_in(bytes, sets, false),
-            wide: true,
+            sets: ClassSets::Wide(sets_in(bytes, sets, false)),
         })),
         WideParts::ChainedClasses {
             coverage,
@@ -188,8 +178,7 @@ pub(crate) fn wide_header<'a>(bytes: &'a [u8], parts: WideParts) -> Option<Subta
             backtrack: classes_in(bytes, backtrack),
             input: classes_in(bytes, input),
             lookahead: classes_in(bytes, lookahead),
-            sets: sets_in(bytes, sets, true),
-            wide: true,
+            sets: ClassSets::Wide(sets_in(bytes, sets, true)),
         })),
         WideParts::Coverages { offsets, records } => coverages(bytes, offsets, records),
     }
