@@ -118,6 +118,16 @@ impl<'a> ChainContext2<'a> {
         }
     }
 
+    /// How many rule sets there are.
+    pub fn set_count(&self) -> u32
+        ensures { result ≡ (class_table_of self.now).sets.count }
+    {
+        match &self.sets {
+            ClassSets::Narrow(sets) => sets.len(),
+            ClassSets::Wide(sets) => sets.len(),
+        }
+    }
+
     /// Fills `words` with the words of the rule sets: the first input classes of each set's rules, modulo 64. Refused: a
     /// buffer shorter than the sets, with nothing drawn or stored; a draw above what is left, with the words of the sets
     /// before it stored. The rest of the buffer stays.

@@ -1,21 +1,21 @@
 //! What the commands of a script work on.
+use crate::failed::Failed;
 use crate::sheet::{Banks, Sheet};
 use answers::Refusal;
 use bank::subtable::ContextSubtable;
 use bank::traits::Matching;
+use calls::Left;
 use context::subtable::Subtable;
 use digest::budget::Budget;
 use digest::set_digest::SetDigest;
 use lookup::list::Lookup;
 use opening::open::{open, open_wide};
-use replies::reply::Reply;
+use replies::reply::{Denied, Reply, Response};
 use script::command::Command;
-use script::reader::Script;
 use std::alloc::{AllocError, Global};
 use tables::class::ClassDef;
 use tables::coverage::Coverage;
 use words::fault::Fault;
-use words::span::Span;
 
 /// What every word of a buffer holds before a fill.
 pub(crate) const UNFILLED: u64 = 0x5555_5555_5555_5555;
@@ -45,57 +45,60 @@ impl<'a> Desk<'a> {
     /// Answers a line while there is no book. One that would start a book comes here only where it cannot be started.
     pub(crate) fn answer(
         &mut self,
-        script: &'a Script,
-        said: Result<Command, Fault>,
-    ) -> Result<Reply, AllocError> {
+        said: &'a Result<Command, Fault>,
+    ) -> Result<Response, AllocError> {
         match said {
-            Ok(Command::Book) => Ok(Reply::Refused(Refusal::TooManySubtables)),
-            Ok(command) => self.carry_out(script, command),
-            Err(fault) => Ok(Reply::Unread(fault)),
+            Ok(Command::Book) => Ok(Err(Refusal::TooManySubtables.into())),
+            Ok(command) => answered(self.carry_out(command)),
+            Err(fault) => Ok(Err((*fault).into())),
         }
     }
 
     /// Carries one command out, while there is no book.
-    pub fn carry_out(&mut self, script: &'a Script, command: Command) -> Result<Reply, AllocError> {
-        match at_any_time(script, command) {
-            Some(reply) => Ok(reply),
-            None => self.without_a_book(script, command),
+    pub fn carry_out(&mut self, command: &'a Command) -> Result<Reply, Failed> {
+        match at_any_time(command) {
+            Some(response) => Ok(response?),
+            None => self.without_a_book(command),
         }
     }
 
     /// Carries out a command that works on the allowance or on the lists.
-    fn without_a_book(
-        &mut self,
-        script: &'a Script,
-        command: Command,
-    ) -> Result<Reply, AllocError> {
-        let bytes = script.bytes.as_slice();
-        let runs = script.glyphs.as_slice();
+    fn without_a_book(&mut self, command: &'a Command) -> Result<Reply, Failed> {
         match command {
-            Command::Allowance { work, bytes } => Ok(self.renew(work, bytes)),
+            Command::Allowance { work, bytes } => Ok(self.renew(*work, *bytes)),
             Command::Left => Ok(self.left()),
             Command::Open { table, chained } => {
-                let opened = open(at(bytes, table), chained, &mut self.budget);
+                let opened = open(table.as_slice(), *chained, &mut self.budget)?;
                 self.list(opened)
             }
             Command::OpenWide { table, parts } => {
-                let opened = open_wide(at(bytes, table), parts, &mut self.budget);
+                let opened = open_wide(table.as_slice(), *parts, &mut self.budget)?;
                 self.list(opened)
             }
             Command::Hit {
                 subtable,
                 place,
                 glyphs,
-            } => Ok(Reply::of(self.hit(subtable, place, at(runs, glyphs)))),
+            } => {
+                let hit = nth(&self.listed, *subtable)?.hit(glyphs.as_slice(), *place)?;
+                Ok(Reply::Hit(hit))
+            }
             Command::Applies {
                 subtable,
                 zero_context,
                 glyphs,
-            } => Ok(Reply::of(self.applies(subtable, zero_context, at(runs, glyphs)))),
+            } => {
+                let subtable = nth(&self.listed, *subtable)?;
+                let applies = subtable.would_apply(glyphs.as_slice(), *zero_context)?;
+                Ok(Reply::Applies(applies))
+            }
             Command::Aside => self.put_aside(),
-            Command::Masks { subtable } => Ok(Reply::of(self.masks(subtable))),
-            Command::Words { subtable, count } => self.words(subtable, count),
-            _ => Ok(Reply::NoBook),
+            Command::Masks { subtable } => {
+                let digest = nth(&self.listed, *subtable)?.digest(&mut self.budget)?;
+                Ok(Reply::Masks(digest.masks()))
+            }
+            Command::Words { subtable, count } => self.words(*subtable, *count),
+            _ => Err(Denied::NoBook.into()),
         }
     }
 
@@ -110,76 +113,38 @@ impl<'a> Desk<'a> {
 
     /// Reads the allowance.
     fn left(&self) -> Reply {
-        Reply::Left {
-            work: self.budget.work_left(),
-            bytes: self.budget.bytes_left(),
-        }
+        let Left { work, bytes } = Left::of(&self.budget);
+        Reply::Left { work, bytes }
     }
 
     /// Lists a subtable that was opened.
-    fn list(&mut self, opened: Result<Subtable<'a>, Refusal>) -> Result<Reply, AllocError> {
-        match opened {
-            Ok(subtable) => {
-                let number = self.listed.len();
-                self.listed.push(subtable)?;
-                Ok(Reply::Open(number))
-            }
-            Err(refusal) => Ok(Reply::Refused(refusal)),
-        }
-    }
-
-    /// Asks a listed subtable for the hit at a place of a run.
-    fn hit(&self, number: u32, place: usize, run: &[u32]) -> Result<Reply, Refusal> {
-        match self.listed.get(number as usize) {
-            Some(subtable) => Ok(Reply::Hit(subtable.hit(run, place)?)),
-            None => Ok(Reply::NoSubtable),
-        }
-    }
-
-    /// Asks a listed subtable whether it would apply to a list of glyphs.
-    fn applies(&self, number: u32, zero_context: bool, glyphs: &[u32]) -> Result<Reply, Refusal> {
-        match self.listed.get(number as usize) {
-            Some(subtable) => Ok(Reply::Applies(subtable.would_apply(glyphs, zero_context)?)),
-            None => Ok(Reply::NoSubtable),
-        }
+    fn list(&mut self, subtable: Subtable<'a>) -> Result<Reply, Failed> {
+        let number = self.listed.len();
+        self.listed.push(subtable)?;
+        Ok(Reply::Open(number))
     }
 
     /// Puts the last listed subtable aside.
-    fn put_aside(&mut self) -> Result<Reply, AllocError> {
-        match self.listed.pop() {
-            Some(subtable) => {
-                let number = self.aside.len();
-                self.aside.push(subtable)?;
-                Ok(Reply::Aside(number))
-            }
-            None => Ok(Reply::NothingListed),
-        }
-    }
-
-    /// Puts the filter call to a listed subtable.
-    fn masks(&mut self, number: u32) -> Result<Reply, Refusal> {
-        match self.listed.get(number as usize) {
-            Some(subtable) => Ok(Reply::Masks(subtable.digest(&mut self.budget)?.masks())),
-            None => Ok(Reply::NoSubtable),
-        }
+    fn put_aside(&mut self) -> Result<Reply, Failed> {
+        let subtable = self.listed.pop().ok_or(Denied::NothingListed)?;
+        let number = self.aside.len();
+        self.aside.push(subtable)?;
+        Ok(Reply::Aside(number))
     }
 
     /// Fills the rule-set words of a listed subtable into a buffer of so many words.
-    fn words(&mut self, number: u32, count: u32) -> Result<Reply, AllocError> {
-        match self.listed.get(number as usize) {
-            Some(Subtable::Classes(view)) => {
-                let mut words = Vec::from_elem(self.heap, UNFILLED, count as usize)?;
-                match view.fill_words(&mut words, &mut self.budget) {
-                    Ok(()) => Ok(Reply::Words {
-                        count: view.sets.len(),
-                        words,
-                    }),
-                    Err(Refusal::ShortBuffer) => Ok(Reply::Refused(Refusal::ShortBuffer)),
-                    Err(refusal) => Ok(Reply::WordsRefused { refusal, words }),
-                }
-            }
-            Some(_) => Ok(Reply::NotClasses),
-            None => Ok(Reply::NoSubtable),
+    fn words(&mut self, number: u32, count: u32) -> Result<Reply, Failed> {
+        let Subtable::Classes(view) = nth(&self.listed, number)? else {
+            return Err(Denied::NotClasses.into());
+        };
+        let mut words = Vec::from_elem(self.heap, UNFILLED, count as usize)?;
+        match view.fill_words(&mut words, &mut self.budget) {
+            Ok(()) => Ok(Reply::Words {
+                count: view.set_count(),
+                words,
+            }),
+            Err(Refusal::ShortBuffer) => Err(Refusal::ShortBuffer.into()),
+            Err(refusal) => Err(Denied::WordsRefused { refusal, words }.into()),
         }
     }
 
@@ -198,22 +163,20 @@ impl<'a> Desk<'a> {
     /// Works off the lines of a book, from its start to its end, and lists the subtables again.
     pub(crate) fn work_book(
         &mut self,
-        script: &'a Script,
         banks: Banks<'a>,
-        lines: &[Result<Command, Fault>],
-    ) -> Result<Vec<Reply>, AllocError> {
+        lines: &'a [Result<Command, Fault>],
+    ) -> Result<Vec<Response>, AllocError> {
         let Banks { bank, beside } = banks;
-        let work = self.budget.work_left();
-        let bytes = self.budget.bytes_left();
+        let before = Left::of(&self.budget);
         let mut sheet = Sheet::new(self.heap, bank.count());
         for said in lines {
-            sheet.add(script, &beside, *said)?;
+            sheet.add(&beside, said)?;
         }
         let bank = sheet.work(bank, &beside, &mut self.budget);
-        let replies = sheet.replies(work, bytes)?;
+        let responses = sheet.responses(before)?;
         self.listed = bank.into_list();
         self.aside = beside.into_list();
-        Ok(replies)
+        Ok(responses)
     }
 
     /// Lets everything go.
@@ -239,25 +202,38 @@ fn taken<'a>(heap: Global, list: &mut Vec<Subtable<'a>>) -> Option<Lookup<'a>> {
     }
 }
 
-/// Carries out a command that stands on its arguments alone; none of the others.
-pub(crate) fn at_any_time(script: &Script, command: Command) -> Option<Reply> {
-    let bytes = script.bytes.as_slice();
-    match command {
-        Command::Coverage { table, glyph } => {
-            Some(Reply::Index(Coverage::new(at(bytes, table)).get(glyph)))
-        }
-        Command::Class { table, glyph } => {
-            Some(Reply::Class(ClassDef::new(at(bytes, table)).get(glyph)))
-        }
-        Command::DigestOf { glyphs } => Some(masks_of(at(script.glyphs.as_slice(), glyphs))),
-        Command::DigestSpan { first, last } => Some(Reply::of(masks_of_span(first, last))),
-        _ => None,
+/// Subtable `number` of a list.
+pub(crate) fn nth<'l, 'a>(
+    list: &'l [Subtable<'a>],
+    number: u32,
+) -> Result<&'l Subtable<'a>, Denied> {
+    list.get(number as usize).ok_or(Denied::NoSubtable)
+}
+
+/// What a command is answered, where there was memory for it.
+pub(crate) fn answered<T: Drop>(done: Result<T, Failed>) -> Result<Result<T, Denied>, AllocError> {
+    match done {
+        Ok(value) => Ok(Ok(value)),
+        Err(Failed::Denied(denied)) => Ok(Err(denied)),
+        Err(Failed::NoMemory(error)) => Err(error),
     }
 }
 
-/// The elements of a buffer at a span. Every span of a script that was read lies inside its buffer.
-pub(crate) fn at<'a, T>(buffer: &'a [T], span: Span) -> &'a [T] {
-    buffer.get(span.start..span.end).unwrap_or(&[])
+/// Carries out a command that stands on its arguments alone; none of the others.
+pub(crate) fn at_any_time(command: &Command) -> Option<Response> {
+    match command {
+        Command::Coverage { table, glyph } => {
+            let index = Coverage::new(table.as_slice()).get(*glyph);
+            Some(Ok(Reply::Index(index)))
+        }
+        Command::Class { table, glyph } => {
+            let class = ClassDef::new(table.as_slice()).get(*glyph);
+            Some(Ok(Reply::Class(class)))
+        }
+        Command::DigestOf { glyphs } => Some(Ok(masks_of(glyphs.as_slice()))),
+        Command::DigestSpan { first, last } => Some(masks_of_span(*first, *last)),
+        _ => None,
+    }
 }
 
 /// The masks of these glyphs.
@@ -270,7 +246,7 @@ fn masks_of(glyphs: &[u32]) -> Reply {
 }
 
 /// The masks of the glyphs from `first` to `last`.
-fn masks_of_span(first: u32, last: u32) -> Result<Reply, Refusal> {
+fn masks_of_span(first: u32, last: u32) -> Response {
     let mut digest = SetDigest::new();
     digest.add_range(first, last)?;
     Ok(Reply::Masks(digest.masks()))

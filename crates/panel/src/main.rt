@@ -2,10 +2,11 @@
 #![tactic(auto)]
 
 mod desk;
+mod failed;
 mod sheet;
 
 use desk::Desk;
-use replies::reply::Reply;
+use replies::reply::Response;
 use script::command::Command;
 use script::reader::Script;
 use sheet::sheet_length;
@@ -19,22 +20,23 @@ fn work_off<'a>(rt: &impl Print, script: &'a Script, desk: &mut Desk<'a>) -> any
         if let Ok(Command::Book) = said {
             if let Some(banks) = desk.banks() {
                 let (sheet, next) = after.split_at(sheet_length(after));
-                let replies = desk.work_book(script, banks, sheet)?;
-                print(rt, replies.as_slice())?;
+                for response in &desk.work_book(banks, sheet)? {
+                    print(rt, response)?;
+                }
                 rest = next;
                 continue;
             }
         }
-        let reply = desk.answer(script, *said)?;
-        println!(rt; "{reply}")?;
+        print(rt, &desk.answer(said)?)?;
     }
     Ok(())
 }
 
-/// Prints replies, a line each.
-fn print(rt: &impl Print, replies: &[Reply]) -> anyhow::Result<()> {
-    for reply in replies {
-        println!(rt; "{reply}")?;
+/// Prints what a command is answered, as a line.
+fn print(rt: &impl Print, response: &Response) -> anyhow::Result<()> {
+    match response {
+        Ok(reply) => println!(rt; "{reply}")?,
+        Err(denied) => println!(rt; "{denied}")?,
     }
     Ok(())
 }

@@ -1,18 +1,18 @@
 //! The lines from `book` to the end of the book: one list of calls, worked off together.
 ghost use Rattle.std.specs.Prelude.{◌≤◌, length};
 
-use crate::desk::{MOST_WORDS, UNFILLED, at, at_any_time};
+use crate::desk::{MOST_WORDS, UNFILLED, answered, at_any_time, nth};
+use crate::failed::Failed;
 use answers::questions::MOST_GLYPHS;
 use answers::{Hit, Refusal};
 use bank::traits::Matching;
-use calls::{Answer, Call, Line};
+use calls::{Call, Granted, Left, Line};
 use context::subtable::Subtable;
 use digest::budget::Budget;
 use lookup::list::Lookup;
 use replay::replay;
-use replies::reply::Reply;
+use replies::reply::{Denied, Reply, Response};
 use script::command::{BookCommand, Command};
-use script::reader::Script;
 use std::alloc::{AllocError, Global};
 use words::fault::Fault;
 
@@ -54,7 +54,7 @@ enum Step {
     /// It reads what is left after the calls so far.
     Left,
     /// It is answered already.
-    Said(Reply),
+    Said(Response),
 }
 
 /// The lines of a book as a list of calls.
@@ -80,58 +80,65 @@ impl<'view> Sheet<'view> {
     /// Adds a line.
     pub(crate) fn add<'s: 'view, 'a: 'view>(
         &mut self,
-        script: &'s Script,
         beside: &'view Lookup<'a>,
-        said: Result<Command, Fault>,
+        said: &'s Result<Command, Fault>,
     ) -> Result<(), AllocError> {
         let step = match said {
-            Ok(Command::Left) => Step::Left,
-            Ok(Command::Open { table, chained }) => {
-                self.call(Call::Open(at(script.bytes.as_slice(), table), chained))?
-            }
-            Ok(Command::OpenWide { table, parts }) => {
-                self.call(Call::OpenWide(at(script.bytes.as_slice(), table), parts))?
-            }
-            Ok(Command::OnBook(command)) => self.on_book(script, beside, command)?,
-            Ok(command) => Step::Said(at_any_time(script, command).unwrap_or(Reply::BookOpen)),
-            Err(fault) => Step::Said(Reply::Unread(fault)),
+            Ok(command) => answered(self.step(beside, command))?,
+            Err(fault) => Err((*fault).into()),
         };
-        self.steps.push(step)?;
+        self.steps
+            .push(step.unwrap_or_else(|denied| Step::Said(Err(denied))))?;
         Ok(())
+    }
+
+    /// What a command comes to.
+    fn step<'s: 'view, 'a: 'view>(
+        &mut self,
+        beside: &'view Lookup<'a>,
+        command: &'s Command,
+    ) -> Result<Step, Failed> {
+        match command {
+            Command::Left => Ok(Step::Left),
+            Command::Open { table, chained } => self.call(Call::Open(table.as_slice(), *chained)),
+            Command::OpenWide { table, parts } => {
+                self.call(Call::OpenWide(table.as_slice(), *parts))
+            }
+            Command::OnBook(command) => self.on_book(beside, command),
+            _ => Ok(Step::Said(at_any_time(command).unwrap_or(Err(Denied::BookOpen)))),
+        }
     }
 
     /// What a command on the book comes to.
     fn on_book<'s: 'view, 'a: 'view>(
         &mut self,
-        script: &'s Script,
         beside: &'view Lookup<'a>,
-        command: BookCommand,
-    ) -> Result<Step, AllocError> {
-        let runs = script.glyphs.as_slice();
+        command: &'s BookCommand,
+    ) -> Result<Step, Failed> {
         match command {
-            BookCommand::Filter { subtable } => self.call(Call::Filter(subtable)),
-            BookCommand::Forget { subtable } => self.call(Call::Forget(subtable)),
-            BookCommand::State { subtable } => self.call(Call::State(subtable)),
+            BookCommand::Filter { subtable } => self.call(Call::Filter(*subtable)),
+            BookCommand::Forget { subtable } => self.call(Call::Forget(*subtable)),
+            BookCommand::State { subtable } => self.call(Call::State(*subtable)),
             BookCommand::WouldApply {
                 zero_context,
                 glyphs,
-            } => self.call(Call::WouldApply(at(runs, glyphs), zero_context)),
-            BookCommand::Scan { count, glyphs } => self.scan(count, at(runs, glyphs)),
-            BookCommand::MasksBeside { subtable } => self.call(Call::FilterBeside(subtable)),
-            BookCommand::WordsBeside { subtable, count } => self.fill(beside, subtable, count),
+            } => self.call(Call::WouldApply(glyphs.as_slice(), *zero_context)),
+            BookCommand::Scan { count, glyphs } => self.scan(*count, glyphs.as_slice()),
+            BookCommand::MasksBeside { subtable } => self.call(Call::FilterBeside(*subtable)),
+            BookCommand::WordsBeside { subtable, count } => self.fill(beside, *subtable, *count),
             BookCommand::Anew => self.call(Call::Anew),
-            BookCommand::End => Ok(Step::Said(Reply::Ended(self.count))),
+            BookCommand::End => Ok(Step::Said(Ok(Reply::Ended(self.count)))),
         }
     }
 
     /// A call that wants no lists.
-    fn call(&mut self, call: Call<'view>) -> Result<Step, AllocError> {
+    fn call(&mut self, call: Call<'view>) -> Result<Step, Failed> {
         self.push(call, Vec::new(self.heap), Vec::new(self.heap))
     }
 
     /// A scan into a list of so many entries. No run has more hits than glyphs, so that entries past the most glyphs of a
     /// run are never written or told.
-    fn scan(&mut self, count: u32, run: &'view [u32]) -> Result<Step, AllocError> {
+    fn scan(&mut self, count: u32, run: &'view [u32]) -> Result<Step, Failed> {
         let entries = (count as usize).min(MOST_GLYPHS);
         let hits = Vec::from_elem(self.heap, NO_HIT, entries)?;
         self.push(Call::Scan(run), hits, Vec::new(self.heap))
@@ -143,34 +150,25 @@ impl<'view> Sheet<'view> {
         beside: &'view Lookup<'a>,
         subtable: u32,
         count: u32,
-    ) -> Result<Step, AllocError> {
-        match beside.subtables().get(subtable as usize) {
-            Some(Subtable::Classes(_)) if count > MOST_WORDS => {
-                Ok(Step::Said(Reply::TooLargeABuffer))
-            }
-            Some(Subtable::Classes(view)) => {
-                let words = Vec::from_elem(self.heap, UNFILLED, count as usize)?;
-                self.push(Call::Fill(view), Vec::new(self.heap), words)
-            }
-            Some(_) => Ok(Step::Said(Reply::NotClasses)),
-            None => Ok(Step::Said(Reply::NoSubtable)),
+    ) -> Result<Step, Failed> {
+        let Subtable::Classes(view) = nth(beside.subtables(), subtable)? else {
+            return Err(Denied::NotClasses.into());
+        };
+        if count > MOST_WORDS {
+            return Err(Denied::TooLargeABuffer.into());
         }
+        let words = Vec::from_elem(self.heap, UNFILLED, count as usize)?;
+        self.push(Call::Fill(view), Vec::new(self.heap), words)
     }
 
     /// Adds a call with the lists lent to it.
-    fn push(
-        &mut self,
-        call: Call<'view>,
-        hits: Vec<Hit>,
-        words: Vec<u64>,
-    ) -> Result<Step, AllocError> {
+    fn push(&mut self, call: Call<'view>, hits: Vec<Hit>, words: Vec<u64>) -> Result<Step, Failed> {
         self.lines.push(Line {
             call,
             hits,
             words,
-            answer: Answer::Blank,
-            work_left: 0,
-            bytes_left: 0,
+            answer: None,
+            left: Left { work: 0, bytes: 0 },
         })?;
         Ok(Step::Called)
     }
@@ -185,79 +183,79 @@ impl<'view> Sheet<'view> {
         replay(bank, beside, budget, &mut self.lines).end()
     }
 
-    /// What every line is answered, where the allowance was so much before the first.
-    pub(crate) fn replies(self, work: u64, bytes: u64) -> Result<Vec<Reply>, AllocError> {
+    /// What every line is answered, where so much of the allowance was left before the first.
+    pub(crate) fn responses(self, before: Left) -> Result<Vec<Response>, AllocError> {
         let Sheet {
             heap,
             count,
             steps,
             lines,
         } = self;
-        let mut replies = Vec::new(heap);
-        replies.push(Reply::Book(count))?;
+        let mut responses = Vec::new(heap);
+        responses.push(Ok(Reply::Book(count)))?;
         let mut lines = lines.into_iter();
-        let mut work = work;
-        let mut bytes = bytes;
+        let mut left = before;
         for step in steps {
-            let reply = match step {
-                Step::Said(reply) => reply,
-                Step::Left => Reply::Left { work, bytes },
+            let response = match step {
+                Step::Said(response) => response,
+                Step::Left => Ok(Reply::Left {
+                    work: left.work,
+                    bytes: left.bytes,
+                }),
                 Step::Called => match lines.next() {
                     Some(line) => {
-                        work = line.work_left;
-                        bytes = line.bytes_left;
+                        left = line.left;
                         told(line, count)
                     }
-                    None => Reply::NoBook,
+                    None => Err(Denied::NoBook),
                 },
             };
-            replies.push(reply)?;
+            responses.push(response)?;
         }
-        Ok(replies)
+        Ok(responses)
     }
 }
 
 /// What a line that was worked off is answered, on a book of so many subtables.
-fn told(line: Line<'_>, count: u32) -> Reply {
+fn told(line: Line<'_>, count: u32) -> Response {
     let Line {
         call,
         hits,
         words,
         answer,
-        work_left: _,
-        bytes_left: _,
+        left: _,
     } = line;
-    match answer {
-        Answer::Refused(refusal) => refused(call, refusal, hits, words),
-        Answer::Done | Answer::Blank => done(call, words, count),
-        Answer::StateIs(number) => Reply::State(number),
-        Answer::Applies(yes) => Reply::Applies(yes),
-        Answer::Scanned(counts) => Reply::Scan {
+    match answer.unwrap_or(Ok(Granted::Done)) {
+        Ok(Granted::Done) => Ok(done(call, words, count)),
+        Ok(Granted::StateIs(state)) => Ok(Reply::State(state)),
+        Ok(Granted::Applies(yes)) => Ok(Reply::Applies(yes)),
+        Ok(Granted::Scanned(counts)) => Ok(Reply::Scan {
             hits: counts.hits,
             tries: counts.tries,
             list: hits,
-        },
-        Answer::Digest(digest) => Reply::Masks(digest.masks()),
+        }),
+        Ok(Granted::Digest(digest)) => Ok(Reply::Masks(digest.masks())),
+        Err(refusal) => Err(refused(call, refusal, hits, words)),
     }
 }
 
-/// The answer of a call that was refused. A scan and a fill tell what they wrote.
-fn refused(call: Call<'_>, refusal: Refusal, hits: Vec<Hit>, words: Vec<u64>) -> Reply {
+/// Why a call was refused. A scan and a fill tell what they wrote.
+fn refused(call: Call<'_>, refusal: Refusal, hits: Vec<Hit>, words: Vec<u64>) -> Denied {
     match (call, refusal) {
-        (Call::Scan(_), Refusal::ListFull) => Reply::ScanRefused {
+        (Call::Scan(_), Refusal::ListFull) => Denied::ScanRefused {
             refusal,
             list: hits,
         },
-        (Call::Fill(_), Refusal::Exhausted) => Reply::WordsRefused { refusal, words },
-        _ => Reply::Refused(refusal),
+        (Call::Fill(_), Refusal::Exhausted) => Denied::WordsRefused { refusal, words },
+        _ => refusal.into(),
     }
 }
 
-/// The answer of a call that was granted and has no answer of its own.
+/// The answer of a call that was granted and tells nothing.
 fn done(call: Call<'_>, words: Vec<u64>, count: u32) -> Reply {
     match call {
         Call::Fill(view) => Reply::Words {
-            count: view.sets.len(),
+            count: view.set_count(),
             words,
         },
         Call::Filter(_) => Reply::Filtered,

@@ -1,12 +1,13 @@
 //! What a command is answered.
 ghost use Rattle.std.specs.Prelude.{◌≡◌};
-ghost use Rattle.replies.specs.Replies.{or_refused};
+ghost use Rattle.replies.specs.declared.reply.Denied.TheVariants as denied;
 
 use answers::{Hit, Refusal};
+use book::SlotState;
 use std::fmt;
 use words::fault::Fault;
 
-/// The answer to a command.
+/// What a command that was carried out is answered.
 #[derive(Drop)]
 pub enum Reply {
     /// A coverage index, or that the glyph is not covered.
@@ -33,27 +34,15 @@ pub enum Reply {
         count: u32,
         words: Vec<u64>,
     },
-    /// A fill that was refused on its way, and the whole buffer as it left it.
-    WordsRefused {
-        refusal: Refusal,
-        words: Vec<u64>,
-    },
-    Refused(Refusal),
     /// How many subtables the book has that was started.
     Book(u32),
     Filtered,
     Forgotten,
-    /// The number of a slot's state.
-    State(u8),
+    State(SlotState),
     /// How many hits a scan lists, how many tries it took, and the list: the hits come first.
     Scan {
         hits: usize,
         tries: usize,
-        list: Vec<Hit>,
-    },
-    /// A scan that was refused on its way, and the list as it left it.
-    ScanRefused {
-        refusal: Refusal,
         list: Vec<Hit>,
     },
     /// A subtable was opened and let go.
@@ -62,6 +51,16 @@ pub enum Reply {
     Anew(u32),
     /// How many subtables are listed again.
     Ended(u32),
+}
+
+/// Why a command was not carried out.
+#[derive(Drop)]
+pub enum Denied {
+    Refused(Refusal),
+    /// A fill that was refused on its way, and the whole buffer as it left it.
+    WordsRefused { refusal: Refusal, words: Vec<u64> },
+    /// A scan that was refused on its way, and the list as it left it.
+    ScanRefused { refusal: Refusal, list: Vec<Hit> },
     /// A line says nothing that can be carried out.
     Unread(Fault),
     /// There is no subtable to put aside.
@@ -78,66 +77,52 @@ pub enum Reply {
     NoSubtable,
 }
 
-impl Reply {
-    /// An answer, or its refusal.
-    pub fn of(answer: Result<Reply, Refusal>) -> Reply
-        ensures value { result ≡ or_refused answer }
-    {
-        match answer {
-            Ok(reply) => reply,
-            Err(refusal) => Reply::Refused(refusal),
+/// What a command is answered, carried out or not.
+pub type Response = Result<Reply, Denied>;
+
+impl From<Refusal> for Denied {
+    ghost from_gives = { λ refusal why. why ≡ denied.Refused refusal };
+
+    fn from(refusal: Refusal) -> Denied {
+        Denied::Refused(refusal)
+    }
+}
+
+impl From<Fault> for Denied {
+    ghost from_gives = { λ fault why. why ≡ denied.Unread fault };
+
+    fn from(fault: Fault) -> Denied {
+        Denied::Unread(fault)
+    }
+}
+
+/// The elements of a list, each behind a space.
+#[derive(Drop)]
+struct Listed<'a, T>(&'a [T]);
+
+impl fmt::Display for Listed<'_, u64> {
+    fn fmt<W: fmt::Write>(&self, f: &mut fmt::Formatter<W>) -> fmt::Result {
+        for word in self.0 {
+            write!(f, " {word:016X}")?;
         }
+        Ok(())
     }
 }
 
-/// Writes a refusal.
-fn write_refused<W: fmt::Write>(refusal: Refusal, f: &mut fmt::Formatter<W>) -> fmt::Result {
-    let number = refusal.number();
-    write!(f, "refused {number}")
-}
-
-/// Writes a hit.
-fn write_hit<W: fmt::Write>(hit: Hit, f: &mut fmt::Formatter<W>) -> fmt::Result {
-    let Hit {
-        place,
-        subtable,
-        length,
-        records,
-        record_count,
-    } = hit;
-    write!(
-        f,
-        "hit {place} {subtable} {length} {records} {record_count}"
-    )
-}
-
-/// Writes three masks.
-fn write_masks<W: fmt::Write>(masks: [u64; 3], f: &mut fmt::Formatter<W>) -> fmt::Result {
-    let [first, second, third] = masks;
-    write!(f, "masks {first:016X} {second:016X} {third:016X}")
-}
-
-/// Writes the first hits of a list, each behind a space.
-fn write_hits<W: fmt::Write>(list: &[Hit], count: usize, f: &mut fmt::Formatter<W>) -> fmt::Result {
-    for hit in list.iter().take(count) {
-        let Hit {
-            place,
-            subtable,
-            length,
-            records,
-            record_count,
-        } = *hit;
-        write!(f, " {place},{subtable},{length},{records},{record_count}")?;
+impl fmt::Display for Listed<'_, Hit> {
+    fn fmt<W: fmt::Write>(&self, f: &mut fmt::Formatter<W>) -> fmt::Result {
+        for hit in self.0 {
+            let Hit {
+                place,
+                subtable,
+                length,
+                records,
+                record_count,
+            } = *hit;
+            write!(f, " {place},{subtable},{length},{records},{record_count}")?;
+        }
+        Ok(())
     }
-    Ok(())
-}
-
-/// Writes words, each behind a space.
-fn write_words<W: fmt::Write>(words: &[u64], f: &mut fmt::Formatter<W>) -> fmt::Result {
-    for word in words {
-        write!(f, " {word:016X}")?;
-    }
-    Ok(())
 }
 
 impl fmt::Display for Reply {
@@ -146,46 +131,73 @@ impl fmt::Display for Reply {
             Reply::Index(Some(index)) => write!(f, "index {index}"),
             Reply::Index(None) => f.write_str("not covered"),
             Reply::Class(class) => write!(f, "class {class}"),
-            Reply::Masks(masks) => write_masks(*masks, f),
+            Reply::Masks([first, second, third]) => {
+                write!(f, "masks {first:016X} {second:016X} {third:016X}")
+            }
             Reply::Allowance { work, bytes } => write!(f, "allowance {work} {bytes}"),
             Reply::Left { work, bytes } => write!(f, "left {work} {bytes}"),
             Reply::Open(number) => write!(f, "open {number}"),
-            Reply::Hit(Some(hit)) => write_hit(*hit, f),
+            Reply::Hit(
+                Some(
+                    Hit {
+                        place,
+                        subtable,
+                        length,
+                        records,
+                        record_count,
+                    },
+                ),
+            ) => {
+                write!(
+                    f,
+                    "hit {place} {subtable} {length} {records} {record_count}"
+                )
+            }
             Reply::Hit(None) => f.write_str("none"),
             Reply::Applies(true) => f.write_str("yes"),
             Reply::Applies(false) => f.write_str("no"),
-            Reply::Refused(refusal) => write_refused(*refusal, f),
             Reply::Aside(number) => write!(f, "aside {number}"),
             Reply::Words { count, words } => {
-                write!(f, "words {count}")?;
-                write_words(words.as_slice(), f)
-            }
-            Reply::WordsRefused { refusal, words } => {
-                write_refused(*refusal, f)?;
-                write_words(words.as_slice(), f)
+                let words = Listed(words.as_slice());
+                write!(f, "words {count}{words}")
             }
             Reply::Book(count) => write!(f, "book {count}"),
             Reply::Filtered => f.write_str("filtered"),
             Reply::Forgotten => f.write_str("forgotten"),
-            Reply::State(number) => write!(f, "state {number}"),
-            Reply::Scan { hits, tries, list } => {
-                write!(f, "scan {hits} {tries}")?;
-                write_hits(list.as_slice(), *hits, f)
+            Reply::State(state) => {
+                let number = u8::from(*state);
+                write!(f, "state {number}")
             }
-            Reply::ScanRefused { refusal, list } => {
-                write_refused(*refusal, f)?;
-                write_hits(list.as_slice(), list.len(), f)
+            Reply::Scan { hits, tries, list } => {
+                let first = Listed(list.get(..*hits).unwrap_or(&[]));
+                write!(f, "scan {hits} {tries}{first}")
             }
             Reply::Opened => f.write_str("opened"),
             Reply::Anew(count) => write!(f, "anew {count}"),
             Reply::Ended(count) => write!(f, "ended {count}"),
-            Reply::Unread(fault) => write!(f, "error: {fault}"),
-            Reply::NothingListed => f.write_str("error: nothing listed"),
-            Reply::NoBook => f.write_str("error: no book"),
-            Reply::BookOpen => f.write_str("error: a book is open"),
-            Reply::TooLargeABuffer => f.write_str("error: too large a buffer"),
-            Reply::NotClasses => f.write_str("error: not a class subtable"),
-            Reply::NoSubtable => f.write_str("error: no such subtable"),
+        }
+    }
+}
+
+impl fmt::Display for Denied {
+    fn fmt<W: fmt::Write>(&self, f: &mut fmt::Formatter<W>) -> fmt::Result {
+        match self {
+            Denied::Refused(why) => write!(f, "{why}"),
+            Denied::WordsRefused { refusal, words } => {
+                let words = Listed(words.as_slice());
+                write!(f, "{refusal}{words}")
+            }
+            Denied::ScanRefused { refusal, list } => {
+                let hits = Listed(list.as_slice());
+                write!(f, "{refusal}{hits}")
+            }
+            Denied::Unread(fault) => write!(f, "error: {fault}"),
+            Denied::NothingListed => f.write_str("error: nothing listed"),
+            Denied::NoBook => f.write_str("error: no book"),
+            Denied::BookOpen => f.write_str("error: a book is open"),
+            Denied::TooLargeABuffer => f.write_str("error: too large a buffer"),
+            Denied::NotClasses => f.write_str("error: not a class subtable"),
+            Denied::NoSubtable => f.write_str("error: no such subtable"),
         }
     }
 }
