@@ -96,11 +96,12 @@ fn add_entries(start: u16, classes: &Uints, class: u32, digest: &mut SetDigest)
 }
 
 /// Adds the glyphs from `start` to `end`: none where they are reversed.
+#[tactic(auto, using(opentype::proofs::Sums::sums_fit))]
 fn add_glyphs_from(start: u32, end: u32, digest: &mut SetDigest)
     ensures masks { digest.new.masks ≡ add_from start end digest.old.masks }
 {
     if start <= end {
         // The sums by which a span is added always fit.
-        let _ = digest.add_range(start, end);
+        digest.add_range(start, end).unwrap();
     }
 }

@@ -49,11 +49,12 @@ fn add_glyphs(glyphs: &Uints, digest: &mut SetDigest)
 }
 
 /// Adds each range as a span.
+#[tactic(auto, using(opentype::proofs::Sums::sums_fit))]
 fn add_spans(ranges: &RangeRecords, digest: &mut SetDigest)
     ensures masks { let all = ranges_of ranges.now in digest.new.masks ≡ fold_below (λ k ms. add_span ms (all.start k) (all.end k)) all.count digest.old.masks }
 {
     for range in ranges.iter() {
         // The sums by which a span is added always fit.
-        let _ = digest.add_range(range.start, range.end);
+        digest.add_range(range.start, range.end).unwrap();
     }
 }

@@ -24,7 +24,8 @@ use tables::class::ClassDef;
 use tables::coverage::Coverage;
 
 /// How the first value behind a rule's first glyph is added: as an input, or as a lookahead. Where any glyph may match
-/// the value, the walk stops with all ones.
+/// the value, the walk stops with all ones. A trait and no closures: contracts cite what a value adds as a function, and
+/// of a closure they could only say which outcomes are possible.
 pub trait AddSecond {
     ghost adding: { Self → Adding ℕ };
 
@@ -180,6 +181,7 @@ fn add_rules<F: RuleWidths, A: AddSecond>(
 }
 
 /// Adds a rule by its first input value, or else by its first lookahead value: any glyph may follow where it has neither.
+#[tactic(auto, using(crate::proofs::Firsts::by_neither))]
 fn add_rule<W: Width, A: AddSecond>(
     rule: &ParsedRule<W>,
     adding: &A,
@@ -187,11 +189,9 @@ fn add_rule<W: Width, A: AddSecond>(
 ) -> Result<(), Stop>
     ensures { CarriedOut (add_rule (A.AddSecond.adding adding.now) (Some (rule_of W.Width.BYTES rule.now))) gathering.old gathering.new result }
 {
-    if !rule.input.is_empty() {
-        adding.add_input(rule.input.get::<W>(0), gathering)
-    } else if !rule.lookahead.is_empty() {
-        adding.add_lookahead(rule.lookahead.get::<W>(0), gathering)
-    } else {
-        Err(Stop::AnyGlyph)
+    if let Some(value) = rule.input.iter::<W>().next() {
+        return adding.add_input(value, gathering);
     }
+    let value = rule.lookahead.iter::<W>().next().ok_or(Stop::AnyGlyph)?;
+    adding.add_lookahead(value, gathering)
 }
