@@ -1,7 +1,7 @@
 -- What reading digits one after the other says of the number that a word writes.
 use Rattle.std.proofs.Common.{◌≡◌, ℕ, ◌+◌, ◌-◌, ◌*◌, ◌<◌, ◌≤◌, true, false, eqb, List, [], ◌∷◌, length, get_or, drop, Ok, Err, Result, ltb, ⊎_elim, sym, refl, ap, ◌∙◌, arith}
-use Rattle.std.proofs.lemmas.List.{at_drop_more, at_drop_all}
-use Rattle.std.proofs.lemmas.Bool.{cases_Bool, false≢true, lt-ltb, le-ltb, ltb-false}
+use Rattle.std.proofs.lemmas.List.{at_drop_more}
+use Rattle.std.proofs.lemmas.Bool.{cases_Bool, false≢true, le-ltb, ltb-false}
 use Rattle.std.specs.Char.{is_ascii_digit}
 use Rattle.words.specs.declared.fault.Fault.{Fault}
 use Rattle.words.specs.declared.fault.Fault.TheVariants.{NumberTooLarge}
@@ -17,9 +17,6 @@ decimal_digits : (limit : ℕ) (w : List ℕ) → (false ≡ eqb (length w) 0) �
 decimal_digits limit [] h e = absurd (false≢true h)
 decimal_digits limit (c ∷ cs) h e = let d = sym e in rw d refl
 
-below_within : (limit n : ℕ) → n < limit → Ok n ≡ below limit n
-below_within limit n h = let t = lt-ltb n limit h in rw t refl
-
 -- what a number that is refused says
 past_below : (limit n : ℕ) (f : Fault) → Err f ≡ below limit n → (limit ≤ n) × (f ≡ NumberTooLarge)
 past_below limit n f e =
@@ -32,11 +29,8 @@ below_past : (limit n : ℕ) → limit ≤ n → Err NumberTooLarge ≡ below li
 below_past limit n h = let f = le-ltb n limit h in rw f refl
 
 module _ (w : List ℕ) (i n : ℕ) where
-  pub value_more : i < length w → value_after n (drop i w) ≡ value_after 0 w → value_after (n * 10 + (get_or w i 0 - 48)) (drop (i + 1) w) ≡ value_after 0 w
+  value_more : i < length w → value_after n (drop i w) ≡ value_after 0 w → value_after (n * 10 + (get_or w i 0 - 48)) (drop (i + 1) w) ≡ value_after 0 w
   value_more h e = sym (at_drop_more (value_after n) w i 0 h) ∙ e
-
-  value_all : length w ≤ i → value_after n (drop i w) ≡ value_after 0 w → n ≡ value_after 0 w
-  value_all h e = sym (at_drop_all (value_after n) w i h) ∙ e
 
   -- digits so far that write a number past the limit write one with what follows
   value_past : (limit : ℕ) → i < length w → value_after n (drop i w) ≡ value_after 0 w → limit ≤ n * 10 + (get_or w i 0 - 48) → limit ≤ value_after 0 w
@@ -44,11 +38,6 @@ module _ (w : List ℕ) (i n : ℕ) where
       let more = value_more h e in
       let ge = value_ge (n * 10 + (get_or w i 0 - 48)) (drop (i + 1) w) in
       omega arith
-
-  pub granted : (limit : ℕ) → (false ≡ eqb (length w) 0) → true ≡ list_all is_ascii_digit w → length w ≤ i → value_after n (drop i w) ≡ value_after 0 w → n < limit → Ok n ≡ decimal_in limit w
-  granted limit some all h e lt =
-      let whole = value_all h e in
-      ap Ok whole ∙ below_within limit (value_after 0 w) (omega arith) ∙ sym (decimal_digits limit w some all)
 
   pub refused : (limit : ℕ) → (false ≡ eqb (length w) 0) → true ≡ list_all is_ascii_digit w → i < length w → value_after n (drop i w) ≡ value_after 0 w → (f : Fault) → Err f ≡ below limit (n * 10 + (get_or w i 0 - 48)) → Err f ≡ decimal_in limit w
   refused limit some all h e f is =

@@ -11,11 +11,6 @@ use Rattle.words.specs.Hex.{nibble, pairs, hex_in}
 abbrev pub byte : List ℕ → ℕ
 byte pair = nibble (slice_index pair 0) * 16 + nibble (slice_index pair 1)
 
-pub length_pairs : (cs : List ℕ) → length (pairs cs) ≡ length cs / 2
-length_pairs [] = refl
-length_pairs (c ∷ []) = refl
-length_pairs (c ∷ d ∷ cs) = let rest = length_pairs cs in omega arith
-
 pub pairs_by_chunks : (n : ℕ) (cs : List ℕ) → n ≡ length cs / 2 → map byte (first_chunks 2 n cs) ≡ pairs cs
 pairs_by_chunks zero [] h = refl
 pairs_by_chunks zero (c ∷ []) h = refl
