@@ -1,12 +1,12 @@
 -- A search through the subtables of a bank.
 -- Assumes nothing.
-use Rattle.std.proofs.Common.{◌≡◌, ℕ, ◌+◌, ◌<◌, Bool, true, false, List, length, is_some, is_ok, Some, None, Ok, Decides, Option, sym, refl, ap, ◌∙◌, subst, inl, inr, arith}
-use Rattle.std.proofs.lemmas.Bool.{true≢false, cases_lt}
+use Rattle.std.proofs.Common.{◌≡◌, ℕ, ◌<◌, Bool, true, false, List, length, is_some, is_ok, Some, None, Ok, Decides, Option, sym, refl, ap, ◌∙◌, subst, arith}
+use Rattle.std.proofs.lemmas.Bool.{true≢false}
 use Rattle.std.specs.Option.{option_map}
 use Rattle.answers.specs.Questions.{answered}
 use Rattle.answers.specs.declared.hit.Hit.{Hit}
 use Rattle.answers.specs.declared.refusal.Refusal.{Refusal}
-use Rattle.opentype.proofs.Matched.{any_met, any_more, decides_any, first_is}
+use Rattle.opentype.proofs.Matched.{any_met, decides_any, first_is}
 use Rattle.opentype.specs.Matching.{Found, any_below}
 use Rattle.opentype.specs.Meaning.{Subtable, subtable}
 use Rattle.bank.specs.Answers.{hit_of, told}
@@ -30,9 +30,6 @@ module _ (bank : List Subtable) (glyphs : List ℕ) (bare : Bool) where
   -- none of the first n subtables would apply
   abbrev pub Unapplied : (n : ℕ) → Type 0
   Unapplied n = any_below test n ≡ false
-
-  pub unapplied_more : (k : ℕ) → Unapplied k → test k ≡ false → Unapplied (k + 1)
-  unapplied_more = any_more test
 
   pub some_applies_at : (k : ℕ) → k < length bank → test k ≡ true → true ≡ some_applies bank glyphs bare
   some_applies_at k = any_met test (length bank) k
@@ -62,13 +59,6 @@ module _ (bank : List Subtable) (run : List ℕ) (place : ℕ) where
   -- none of the first n subtables matches at the place
   abbrev pub Missed : (n : ℕ) → Type 0
   Missed n = (j : ℕ) → j < n → (subtable bank j).matching.finds run place ≡ None
-
-  pub missed_more : (k : ℕ) → Missed k → (subtable bank k).matching.finds run place ≡ None → Missed (k + 1)
-  missed_more k before here j l =
-      elim (cases_lt j k) [
-        | inl below ↦ before j below
-        | inr last ↦ let same : j ≡ k = omega arith in subst (λ (i : ℕ). (subtable bank i).matching.finds run place ≡ None) (sym same) here
-      ]
 
   abbrev hits : (k : ℕ) → Option Hit
   hits k = hit_of (subtable bank k) k run place

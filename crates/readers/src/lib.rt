@@ -4,5 +4,6 @@
 #![tactic(auto)]
 
 pub mod bytes;
+pub mod each;
 pub mod uints;
 pub mod width;

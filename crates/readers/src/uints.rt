@@ -1,11 +1,11 @@
 //! Arrays of numbers and of offsets to child tables, read in place.
-ghost use Rattle.std.specs.Prelude.{◌≡◌, ◌+◌, ◌*◌, ◌^◌, ◌<◌, ◌≤◌, length, IfSome, ◌==◌};
+ghost use Rattle.std.specs.Prelude.{◌≡◌, ℕ, ◌+◌, ◌*◌, ◌^◌, ◌<◌, ◌≤◌, length, IfSome, ◌==◌};
 ghost use Rattle.std.specs.Option.{option_map};
-ghost use Rattle.std.specs.Iterator.{YieldsFirst, item_count};
 ghost use Rattle.readers.specs.Views.{children_of, counted_at, entries, parts_of, uints_of};
 ghost use Rattle.readers.specs.Left.{left_of};
 
 use crate::bytes::{child, number, read};
+use crate::each::{Each, Indexed};
 use crate::width::{Two, Width};
 use std::marker::PhantomData;
 
@@ -45,14 +45,13 @@ impl<'a> Uints<'a> {
     }
 
     /// The numbers, in order.
-    pub fn iter<W: Width>(&self) -> Numbers<'a, W>
+    pub fn iter<W: Width>(&self) -> Each<Numbers<'a, W>>
         ensures { left_of W.Width.BYTES result ≡ entries (uints_of W.Width.BYTES self.now) }
     {
-        Numbers {
+        Each::of(Numbers {
             uints: *self,
-            at: 0,
             width: PhantomData,
-        }
+        })
     }
 
     /// How many numbers there are.
@@ -70,28 +69,28 @@ impl<'a> Uints<'a> {
     }
 }
 
-/// The numbers of a view from one on, in order.
-#[derive(Drop)]
+/// Numbers of the width `W`.
+#[derive_where(Clone, Copy)]
 pub struct Numbers<'a, W> {
     uints: Uints<'a>,
-    at: u32,
     width: PhantomData<W>,
 }
 
-impl<'a, W: Width> Iterator for Numbers<'a, W> {
+impl<'a, W: Width> Indexed for Numbers<'a, W> {
     type Item = u32;
 
-    ghost next_gives = { YieldsFirst (left_of W.Width.BYTES) };
+    ghost Shown = { ℕ };
 
-    ghost remaining = { item_count (left_of W.Width.BYTES) };
+    ghost shows = { λ number. number };
 
-    fn next(&mut self) -> Option<u32> {
-        if self.at >= self.uints.count {
-            return None;
-        }
-        let number = self.uints.get::<W>(self.at);
-        self.at += 1;
-        Some(number)
+    ghost array = { λ s. uints_of W.Width.BYTES s.uints };
+
+    fn size(&self) -> u32 {
+        self.uints.len()
+    }
+
+    fn item(&self, index: u32) -> u32 {
+        self.uints.get::<W>(index)
     }
 }
 

@@ -14,12 +14,7 @@ use denote.Param.Members.{Mut}
 use Rattle.opentype.specs.Bytes.{Array}
 use Rattle.opentype.specs.Matching.{any_below, first_below}
 use Rattle.opentype.proofs.Matched.{first_met}
-use Rattle.readers.specs.Views.{entries, entries_from}
-
-pub entries_more : {X : Type 0} (at : ℕ) (a : Array X) → at < a.count → entries_from at a ≡ a.entry at ∷ entries_from (at + 1) a
-entries_more at a l =
-    let more : a.count - at ≡ suc (a.count - (at + 1)) = omega arith in
-    ap (λ (n : ℕ). map a.entry (range_with_len at n)) more
+use Rattle.readers.specs.Views.{entries}
 
 turned : (a b : Bool) → (a || (b || false)) ≡ (b || a)
 turned true true = refl

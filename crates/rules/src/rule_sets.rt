@@ -6,12 +6,12 @@ ghost use Rattle.readers.specs.Views.{entries};
 ghost use Rattle.rules.specs.Left.{sets_left};
 ghost use Rattle.rules.specs.Views.{found_of, layout_of, matchers_of, parts_in, rule_set_of, set_of, sets_of, tried_of};
 
-use crate::iter::SetsIter;
 use crate::matching::ValueMatch;
 use crate::parsed::RuleLayout;
 use crate::sets::{RuleSet, Rules};
 use crate::walk::{ChainMatchers, Found};
 use crate::widths::RuleWidths;
+use readers::each::Each;
 use readers::uints::Uints;
 use std::marker::PhantomData;
 
@@ -51,10 +51,10 @@ impl<'a, F: RuleWidths> RuleSets<'a, F> {
     }
 
     /// The sets in order.
-    pub fn iter(&self) -> SetsIter<'a, F>
+    pub fn iter(&self) -> Each<RuleSets<'a, F>>
         ensures { sets_left F.Set.BYTES F.Offset.BYTES F.Value.BYTES result ≡ entries (sets_of F.Set.BYTES F.Offset.BYTES F.Value.BYTES self.now) }
     {
-        SetsIter { sets: *self, at: 0 }
+        Each::of(*self)
     }
 
     /// The rules of set `index`: none where it is null or unreadable, or past the last set.

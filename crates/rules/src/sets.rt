@@ -6,10 +6,11 @@ ghost use Rattle.readers.specs.Views.{entries};
 ghost use Rattle.rules.specs.Left.{parts_left, rules_left};
 ghost use Rattle.rules.specs.Views.{parts_of, rule_of, rule_set_of, rules_of, set_of};
 
-use crate::iter::{PartsIter, RulesIter};
+use crate::iter::Parts;
 use crate::parsed::{ParsedRule, RuleLayout};
 use crate::widths::RuleWidths;
 use readers::bytes::{number, tail};
+use readers::each::Each;
 use readers::uints::Uints;
 use readers::width::{Two, Width};
 use std::marker::PhantomData;
@@ -43,23 +44,17 @@ impl<'a, F: RuleWidths> Rules<'a, F> {
     }
 
     /// The bytes of the rules in order.
-    pub fn parts(&self) -> PartsIter<'a, F>
+    pub fn parts(&self) -> Each<Parts<'a, F>>
         ensures { parts_left F.Offset.BYTES result ≡ entries (parts_of F.Offset.BYTES self.now) }
     {
-        PartsIter {
-            rules: *self,
-            at: 0,
-        }
+        Each::of(Parts(*self))
     }
 
     /// The rules in order, each readable or not.
-    pub fn iter(&self) -> RulesIter<'a, F>
+    pub fn iter(&self) -> Each<Rules<'a, F>>
         ensures { rules_left F.Offset.BYTES F.Value.BYTES result ≡ entries (rules_of F.Offset.BYTES F.Value.BYTES self.now) }
     {
-        RulesIter {
-            rules: *self,
-            at: 0,
-        }
+        Each::of(*self)
     }
 
     /// Rule `index`; none where it is unreadable.

@@ -1,13 +1,14 @@
 //! What coverage and class tables are searched in: listed glyphs, and records of ranges.
 ghost use Rattle.std.specs.Prelude.{◌≡◌, ◌+◌, ◌*◌, ◌^◌, ◌<◌, IfSome};
 ghost use Rattle.std.specs.Option.{option_map};
-ghost use Rattle.readers.specs.Views.{counted_at, uints_of};
-ghost use Rattle.std.specs.Iterator.{YieldsFirst, item_count};
+ghost use Rattle.readers.specs.Views.{counted_at, entries, uints_of};
 ghost use Rattle.tables.specs.Views.{ranges_of, record_parts_of};
-ghost use Rattle.tables.specs.Records.{left_of, record_at, records_from};
+ghost use Rattle.tables.specs.Records.{left_of, record_at, records_of};
+ghost use Rattle.tables.specs.declared.ranges.RangeRecord.{RangeRecord};
 
 use crate::search::Ranges;
 use readers::bytes::number;
+use readers::each::{Each, Indexed};
 use readers::uints::{Uints, counted_entries};
 use readers::width::Two;
 
@@ -74,13 +75,10 @@ impl<'a> RangeRecords<'a> {
     }
 
     /// The records, in order.
-    pub fn iter(&self) -> Records<'a>
-        ensures { left_of result ≡ records_from 0 (ranges_of self.now) }
+    pub fn iter(&self) -> Each<RangeRecords<'a>>
+        ensures { left_of result ≡ entries (records_of (ranges_of self.now)) }
     {
-        Records {
-            ranges: *self,
-            at: 0,
-        }
+        Each::of(*self)
     }
 
     /// Where record `index` begins.
@@ -109,27 +107,21 @@ impl Ranges for RangeRecords<'_> {
     }
 }
 
-/// The records of a view from one on, in order.
-#[derive(Drop)]
-pub struct Records<'a> {
-    ranges: RangeRecords<'a>,
-    at: u32,
-}
-
-impl<'a> Iterator for Records<'a> {
+impl<'a> Indexed for RangeRecords<'a> {
     type Item = RangeRecord;
 
-    ghost next_gives = { YieldsFirst left_of };
+    ghost Shown = { RangeRecord };
 
-    ghost remaining = { item_count left_of };
+    ghost shows = { λ r. r };
 
-    fn next(&mut self) -> Option<RangeRecord> {
-        if self.at >= self.ranges.count {
-            return None;
-        }
-        let record = self.ranges.get(self.at);
-        self.at += 1;
-        Some(record)
+    ghost array = { λ s. records_of (ranges_of s) };
+
+    fn size(&self) -> u32 {
+        self.count
+    }
+
+    fn item(&self, index: u32) -> RangeRecord {
+        self.get(index)
     }
 }
 

@@ -3,7 +3,7 @@ use Rattle.answers.specs.Questions.{place_refused}
 use Rattle.opentype.specs.Meaning.{subtable}
 use Rattle.bank.specs.Answers.{hit_of}
 use Rattle.bank.specs.Searches.{first_hit}
-use Rattle.bank.proofs.Searching.{answer_is, missed_more, none_first, passed, some_first, told_none, told_some}
+use Rattle.bank.proofs.Searching.{answer_is, none_first, passed, some_first, told_some}
 use Rattle.bank.proofs.search.first_hit.Goals as goal
 
 pub returns-in-Some : goal.returns-in-Some
@@ -21,15 +21,6 @@ returns-in-Some g c =
           (some_first bank run place k hit below c.loop-k.invariant here);
       exactly = (k, p.0, below, p.1, p.2, c.loop-k.invariant);
     }
-
-pub loop-k-preserved : goal.loop-k-preserved
-loop-k-preserved g c =
-    let bank = g.B.Matching.meaning c.args.bank.now in
-    let run = c.args.run.now in
-    let place = c.args.place in
-    let k = c.loop-k.k in
-    missed_more bank run place k c.loop-k.invariant (told_none place k ((subtable bank k).matching.finds run place)
-    (answer_is (place_refused (length run) place) _ (hit_of (subtable bank k) k run place) None c.in_ok-hit.ensures.value c.in_default.is))
 
 pub returns : goal.returns
 returns g c =

@@ -1,20 +1,11 @@
-use Rattle.std.proofs.Common.{◌≡◌, ℕ, List, [], ◌∷◌, sym, arith}
+use Rattle.std.proofs.Common.{◌≡◌, ℕ, List, [], ◌∷◌, arith}
 use Rattle.opentype.specs.Spans.{add_span}
 use Rattle.opentype.specs.Theorems.{InBits}
 use Rattle.opentype.proofs.Sums.{always_fits, sums_fit}
-use Rattle.digest.proofs.After.{ok≢err, three_in_bits, span_added, span_kept, span_bits, span_each}
+use Rattle.digest.proofs.After.{three_in_bits, span_added, span_kept, span_bits, span_each}
 use Rattle.digest.proofs.set_digest.SetDigest.add_range.Goals as goal
 
 -- the sums fit, so that no mask is refused
-pub returns-in_err-a : goal.returns-in_err-a
-returns-in_err-a c = absurd (ok≢err _ _ (sym (rw (always_fits 4 c.args.start c.args.end) at c.in_err-a.ensures.value)))
-
-pub returns-in_err-b : goal.returns-in_err-b
-returns-in_err-b c = absurd (ok≢err _ _ (sym (rw (always_fits 0 c.args.start c.args.end) at c.in_err-b.ensures.value)))
-
-pub returns-in_err-c : goal.returns-in_err-c
-returns-in_err-c c = absurd (ok≢err _ _ (sym (rw (always_fits 6 c.args.start c.args.end) at c.in_err-c.ensures.value)))
-
 pub returns : goal.returns
 returns c =
     let ms : List ℕ = c.args.self.now.masks in
