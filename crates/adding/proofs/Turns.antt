@@ -1,23 +1,15 @@
 -- The turns of loops over the entries of an array that walk, and of those that only add.
 -- Assumes nothing.
-use Rattle.std.proofs.Common.{◌≡◌, ℕ, zero, suc, refl, ◌+◌, ◌-◌, ◌<◌, List, map, [], ◌∷◌, ◌++◌, length, Some, None, Option, Ok, Err, Result, IsErrAnd, sym, ap, ◌∙◌, subst, add-one, arith}
-use Rattle.std.specs.Iterator.{Yields, YieldsFirst, YieldsFirstBy}
-use Rattle.std.specs.List.{range_with_len, zip}
-use Rattle.std.proofs.iter.Yields.{nat_range_steps}
-use Rattle.std.specs.declared.iter.Zip.{Zip}
-use Rattle.std.specs.declared.ops.Range.{Range}
-use Rattle.std.specs.Iterator.Adapters.{zip_first, zip_second}
-use Rattle.std.proofs.lemmas.Iterator.{YieldsList, YieldsList-from_range, YieldsList-from_zip, zips}
-use Rattle.std.proofs.lemmas.Iterator.Consumers.{YieldsList-from_first, YieldsList-turn, YieldsList-end}
+use Rattle.std.proofs.Common.{◌≡◌, ℕ, refl, ◌+◌, ◌<◌, List, [], ◌∷◌, ◌++◌, length, Some, None, Option, Ok, Err, Result, IsErrAnd, sym, ap, ◌∙◌, subst, add-one}
+use Rattle.std.specs.Iterator.{Yields}
 use Rattle.std.proofs.lemmas.List.{length_push}
-use Rattle.std.proofs.lemmas.List.FromFn.{length-map-range_with_len, get_or-map-range_with_len}
 use Rattle.std.proofs.lemmas.Result.{err_from_is_err_and}
 use Rattle.opentype.specs.Bytes.{Array}
 use Rattle.opentype.specs.Carried.{Outcome, Ended}
 use Rattle.opentype.specs.Walks.{Step, stopped, walk, walk_below, fold_below}
 use Rattle.opentype.proofs.Carrying.{turn, ends}
 use Rattle.digest.specs.Allowances.{allowance_of}
-use Rattle.readers.specs.Views.{entries}
+use Rattle.readers.proofs.Giving.{Gives, item_is, all_taken}
 use Rattle.adding.specs.Walked.{ending_of, CarriedOut}
 use Rattle.adding.specs.declared.gathering.Gathering.{Gathering}
 use Rattle.adding.specs.declared.stop.Stop.{Stop}
@@ -58,59 +50,18 @@ module _ (step : ℕ → List ℕ → Step) {start here : Gathering} (i : ℕ) (
         same_allowance = now.same_allowance ∙ before.same_allowance;
       })
 
--- ---- iterators that give the entries of an array
-
-pub record Gives {S A X : Type 0} (steps : S → Option A → S → Type 0) (shows : A → X) (s : S) (a : Array X) : Type 0 where
-  pub items : YieldsList steps shows s (entries a)
-
--- one whose call gives the first of what is left, as it shows
-pub gives : {S A X : Type 0} (shows : A → X) (rest : S → List X) {s t : S} {a : Array X} → t ≡ s → rest s ≡ entries a
-    → Gives (YieldsFirstBy shows rest) shows t a
-gives shows rest {a = a} is all = record { items = YieldsList-from_first shows rest (entries a) (ap rest is ∙ all) }
-
-zip_entries : {X : Type 0} (f : ℕ → X) (a n : ℕ) → zip (range_with_len a n) (map f (range_with_len a n)) ≡ map (λ k. (k, f k)) (range_with_len a n)
-zip_entries f a zero = refl
-zip_entries f a (suc n) = ap (λ ps. (a, f a) ∷ ps) (zip_entries f (a + 1) n)
-
--- one that is zipped with the numbers of the entries
-pub gives_numbered : {S X : Type 0} (rest : S → List X) {s t : Zip (Range ℕ) S} {r : Range ℕ} {i : S} {n : ℕ} {a : Array X} → t ≡ s
-    → zip_first s ≡ r → r ≡ record { start = 0; end = n } → n ≡ a.count → zip_second s ≡ i → rest i ≡ entries a
-    → Gives (zips nat_range_steps (YieldsFirst rest)) (λ p. p) t (record { count = a.count; entry = λ k. (k, a.entry k) })
-gives_numbered {S} {X} rest {a = a} is first range count second all =
-    rw (is)
-    (record {
-      items =
-          rw (← zip_entries a.entry 0 (a.count - 0))
-          (YieldsList-from_zip
-          (YieldsList-from_range 0 a.count (a.count - 0) (first ∙ range ∙ ap (λ (m : ℕ). record { start = 0; end = m }) count) (omega arith))
-          (YieldsList-from_first (λ (x : X). x) rest (entries a) (ap rest second ∙ all)));
-    })
-
 -- ---- a turn of a loop over the entries of an array, from a state in which the iterator has given `xs`
 
 module _ {S A X : Type 0} {steps : S → Option A → S → Type 0} {shows : A → X} {s : S} {a : Array X} (all : Gives steps shows s a)
     (xs : List A) (t : S) (before : Yields steps s xs t) {r : Option A} (u : S) (now : steps t r u) where
-  -- the item shows the entry at the number of turns before it
-  item_is : (x : A) → r ≡ Some x → (length xs < a.count) × (shows x ≡ a.entry (length xs))
-  item_is x is =
-      let t = YieldsList-turn all.items xs t before r u x is now in
-      let within : length xs < a.count = omega (arith, length-map-range_with_len a.entry 0 (a.count - 0)) in
-      (within, t.1 ∙ get_or-map-range_with_len a.entry 0 (a.count - 0) (length xs) (length xs) (shows x) (omega arith) (omega arith))
-
-  -- there are as many turns as entries
-  all_taken : r ≡ None → length xs ≡ a.count
-  all_taken is =
-      let e = YieldsList-end all.items xs t before r u is now in
-      omega (arith, length-map-range_with_len a.entry 0 (a.count - 0))
-
   -- ---- the loop only adds
 
   module _ (add : X → List ℕ → List ℕ) (start m : List ℕ) (added : m ≡ fold_below (λ k. add (a.entry k)) (length xs) start) where
     pub adds_on : (x : A) → r ≡ Some x → {m' : List ℕ} → m' ≡ add (shows x) m → m' ≡ fold_below (λ k. add (a.entry k)) (length (xs ++ x ∷ [])) start
-    adds_on x is {m'} e = rw (length_push, add-one) (e ∙ ap (λ (y : X). add y m) (item_is x is).1 ∙ ap (add (a.entry (length xs))) added)
+    adds_on x is {m'} e = rw (length_push, add-one) (e ∙ ap (λ (y : X). add y m) (item_is all xs t before u now x is).1 ∙ ap (add (a.entry (length xs))) added)
 
     pub adds_all : r ≡ None → m ≡ fold_below (λ k. add (a.entry k)) a.count start
-    adds_all is = subst (λ (k : ℕ). m ≡ fold_below (λ k. add (a.entry k)) k start) (all_taken is) added
+    adds_all is = subst (λ (k : ℕ). m ≡ fold_below (λ k. add (a.entry k)) k start) (all_taken all xs t before u now is) added
 
   -- ---- the loop walks
 
@@ -119,18 +70,18 @@ module _ {S A X : Type 0} {steps : S → Option A → S → Type 0} {shows : A �
       -- it goes on
       pub walks_on : (x : A) → r ≡ Some x → {next : Gathering} → CarriedOut (step (shows x)) here next (Ok tt)
           → CarriedOut (walk_below (λ k. step (a.entry k)) (length (xs ++ x ∷ []))) start next (Ok tt)
-      walks_on x is {next} now =
-          let here : CarriedOut (step (a.entry (length xs))) here next (Ok tt) = subst (λ (y : X). CarriedOut (step y) here next (Ok tt)) (item_is x is).1 now in
+      walks_on x is {next} one =
+          let here : CarriedOut (step (a.entry (length xs))) here next (Ok tt) = subst (λ (y : X). CarriedOut (step y) here next (Ok tt)) (item_is all xs t before u now x is).1 one in
           rw length_push (goes_on (λ k. step (a.entry k)) (length xs) walked here)
 
       -- it stops, and with it the walk
       pub walks_out : (x : A) → r ≡ Some x → {next : Gathering} {stop : Stop} {answer : Result (Unit {0}) Stop} → CarriedOut (step (shows x)) here next (Err stop)
           → IsErrAnd answer (λ e. e ≡ stop) → CarriedOut (walk step a) start next answer
-      walks_out x is {next} {stop} {answer} now out =
-          let i = item_is x is in
-          let here : CarriedOut (step (a.entry (length xs))) here next (Err stop) = subst (λ (y : X). CarriedOut (step y) here next (Err stop)) i.1 now in
+      walks_out x is {next} {stop} {answer} one out =
+          let i = item_is all xs t before u now x is in
+          let here : CarriedOut (step (a.entry (length xs))) here next (Err stop) = subst (λ (y : X). CarriedOut (step y) here next (Err stop)) i.1 one in
           goes_out (λ k. step (a.entry k)) (length xs) walked a.count i.0 stop answer here out
 
       -- it ends
       pub walks_all : r ≡ None → CarriedOut (walk step a) start here (Ok tt)
-      walks_all is = subst (λ (k : ℕ). CarriedOut (walk_below (λ k. step (a.entry k)) k) start here (Ok tt)) (all_taken is) walked
+      walks_all is = subst (λ (k : ℕ). CarriedOut (walk_below (λ k. step (a.entry k)) k) start here (Ok tt)) (all_taken all xs t before u now is) walked

@@ -6,13 +6,17 @@ use Rattle.answers.specs.declared.refusal.Refusal.TheVariants.{ShortBuffer, Exha
 use Rattle.opentype.specs.Bytes.{Array}
 use Rattle.opentype.specs.Draws.{Draw, Allowance, of_work, of_bytes, fit, rest}
 use Rattle.opentype.specs.Headers.{firsts_at}
-use Rattle.opentype.specs.Rules.{RuleSet}
+use Rattle.opentype.specs.Rules.{RuleSet, first_input_in, read_set, rule_set_at}
 use Rattle.opentype.specs.Words.{set_draws, draws_below, word_draws, word_of}
 use Rattle.readers.specs.Views.{uints_of}
 use Rattle.rules.specs.declared.rule_sets.RuleSets.{RuleSets}
 
--- the sets of a class subtable, with the first input of each rule; classes have two bytes
-abbrev pub firsts_of : (set offset : ℕ) → RuleSets → Array (RuleSet (Option ℕ))
+-- the set at a place of a class subtable, with the first input of each rule; classes have two bytes
+abbrev pub firsts_in : {F : Type 0} → (offset : ℕ) → RuleSets F → (place : ℕ) → RuleSet (Option ℕ)
+firsts_in offset s place = read_set (first_input_in s.chained 2) (rule_set_at offset s.bytes.now place)
+
+-- the sets of a class subtable, with the first input of each rule
+abbrev pub firsts_of : {F : Type 0} → (set offset : ℕ) → RuleSets F → Array (RuleSet (Option ℕ))
 firsts_of set offset s = firsts_at (record { chained = s.chained; value = 2; offset = offset }) s.bytes.now (uints_of set s.offsets)
 
 module _ (sets : Array (RuleSet (Option ℕ))) where

@@ -1,7 +1,8 @@
 use Rattle.std.proofs.Common.{ℕ, List}
 use Rattle.opentype.specs.Masks.{add_glyph}
 use Rattle.readers.specs.Left.{left_of}
-use Rattle.adding.proofs.Turns.{gives, adds_on, adds_all}
+use Rattle.readers.proofs.Giving.{gives}
+use Rattle.adding.proofs.Turns.{adds_on, adds_all}
 use Rattle.adding.proofs.coverage.add_glyphs.Goals as goal
 
 pub loop-glyph-preserved : goal.loop-glyph-preserved

@@ -3,7 +3,8 @@ use Rattle.opentype.specs.Spans.{add_span}
 use Rattle.opentype.proofs.Sums.{sums_fit}
 use Rattle.tables.specs.Records.{left_of}
 use Rattle.tables.specs.declared.ranges.RangeRecord.{RangeRecord}
-use Rattle.adding.proofs.Turns.{gives, adds_on, adds_all}
+use Rattle.readers.proofs.Giving.{gives}
+use Rattle.adding.proofs.Turns.{adds_on, adds_all}
 use Rattle.adding.proofs.coverage.add_spans.Goals as goal
 
 pub loop-range-preserved : goal.loop-range-preserved

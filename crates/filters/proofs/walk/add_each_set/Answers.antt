@@ -1,7 +1,8 @@
 use Rattle.opentype.specs.Filters.{add_set}
 use Rattle.rules.specs.Left.{sets_left}
 use Rattle.rules.specs.Views.{rule_set_of}
-use Rattle.adding.proofs.Turns.{gives, walks_on, walks_out, walks_all}
+use Rattle.readers.proofs.Giving.{gives}
+use Rattle.adding.proofs.Turns.{walks_on, walks_out, walks_all}
 use Rattle.filters.proofs.walk.add_each_set.Goals as goal
 
 pub returns-in_err-add_set : goal.returns-in_err-add_set

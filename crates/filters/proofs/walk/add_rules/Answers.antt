@@ -4,7 +4,8 @@ use Rattle.opentype.specs.Filters.{add_rule}
 use Rattle.rules.specs.Left.{rules_left}
 use Rattle.rules.specs.Views.{rule_of}
 use Rattle.adding.specs.declared.stop.Stop.TheVariants.{AnyGlyph}
-use Rattle.adding.proofs.Turns.{gives, stops, walks_on, walks_out, walks_all}
+use Rattle.readers.proofs.Giving.{gives}
+use Rattle.adding.proofs.Turns.{stops, walks_on, walks_out, walks_all}
 use Rattle.filters.proofs.walk.add_rules.Goals as goal
 
 pub returns-in_err-ok_or : goal.returns-in_err-ok_or

@@ -2,7 +2,8 @@ use Rattle.opentype.specs.Filters.{add_range}
 use Rattle.tables.specs.Records.{left_of}
 use Rattle.tables.specs.declared.ranges.RangeRecord.{RangeRecord}
 use Rattle.adding.specs.Walked.{alone}
-use Rattle.adding.proofs.Turns.{gives, walks_on, walks_out, walks_all}
+use Rattle.readers.proofs.Giving.{gives}
+use Rattle.adding.proofs.Turns.{walks_on, walks_out, walks_all}
 use Rattle.adding.proofs.gathering.Gathering.add_ranges.Goals as goal
 
 pub returns-in_err-add_range : goal.returns-in_err-add_range
