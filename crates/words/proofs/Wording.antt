@@ -1,5 +1,5 @@
 -- The words of a text are its first word and the words of what follows it.
-use Rattle.std.proofs.Common.{◌≡◌, ℕ, suc, ◌<◌, ◌≤◌, true, false, not, eqb, List, [], ◌∷◌, length, take, drop, is_some, None, Some, sym, refl, ap, ◌∙◌, ⊎_elim, arith, length-drop, length-take, one-add}
+use Rattle.std.proofs.Common.{◌≡◌, ℕ, suc, ◌<◌, ◌≤◌, true, false, not, eqb, List, [], ◌∷◌, length, take, drop, is_some, Option, None, Some, sym, refl, ap, ◌∙◌, ⊎_elim, arith, length-drop, length-take, one-add}
 use Rattle.std.proofs.lemmas.Bool.{cases_Bool, ne_eqb}
 use Rattle.std.proofs.lemmas.Option.{none-some}
 use Rattle.std.specs.List.{filter, onto_first, slice_split}
@@ -7,7 +7,12 @@ use Rattle.std.proofs.lemmas.Iterator.{YieldsList}
 use Rattle.std.proofs.lemmas.Iterator.Consumers.{YieldsList-from_shown}
 use Rattle.words.specs.declared.line.Words.{Words}
 use Rattle.words.specs.Bytes.{index_of, leading}
-use Rattle.words.specs.Words.{from_word, unless_empty, word_in, after_word, words_in, words_left, headed, TakesWord}
+use Rattle.words.specs.Words.{from_word, unless_empty, word_in, after_word, words_in, words_left, TakesWord}
+
+-- words that begin with this one, if it is there
+abbrev headed : Option (List ℕ) → List (List ℕ) → List (List ℕ)
+headed None ws = []
+headed (Some w) ws = w ∷ ws
 
 -- leading spaces end no word
 words_in-from_word : (cs : List ℕ) → words_in cs ≡ words_in (from_word cs)

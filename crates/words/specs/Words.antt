@@ -25,11 +25,6 @@ after_word cs = drop (index_of 32 (from_word cs)) (from_word cs)
 abbrev pub words_in : List ℕ → List (List ℕ)
 words_in cs = filter (λ w. not (length w == 0)) (slice_split (λ c. c == 32) cs)
 
--- words that begin with this one, if it is there
-abbrev pub headed : Option (List ℕ) → List (List ℕ) → List (List ℕ)
-headed None ws = []
-headed (Some w) ws = w ∷ ws
-
 -- the words that are still to be read
 abbrev pub words_left : Words → List (List ℕ)
 words_left s = words_in s.rest.now
