@@ -1,5 +1,5 @@
 //! The headers of context subtables, by their formats.
-ghost use Rattle.std.specs.Prelude.{◌≡◌, ◌<◌};
+ghost use Rattle.std.specs.Prelude.{◌≡◌, ◌+◌, ◌-◌, ◌<◌, ◌≤◌};
 ghost use Rattle.std.specs.Option.{option_map};
 ghost use Rattle.opentype.specs.Bytes.{number as number_at};
 ghost use Rattle.opentype.specs.Headers.{chained_class_header, chained_coverage_header, glyph_header, header_in, plain_class_header, plain_coverage_header, first_coverage};
@@ -14,7 +14,7 @@ use context::subtable::Subtable;
 use readers::bytes::number;
 use readers::uints::Uints;
 use readers::width::{Two, Width};
-use rules::parsed::ParsedRule;
+use rules::parsed::{ParsedRule, RECORD_BYTES};
 use rules::rule_sets::RuleSets;
 use rules::widths::RuleWidths;
 use std::marker::PhantomData;
@@ -29,9 +29,6 @@ const CLASS_FORMAT: u32 = 2;
 
 /// The format of one rule over coverages.
 const COVERAGE_FORMAT: u32 = 3;
-
-/// The bytes of a record.
-const RECORD_BYTES: usize = 4;
 
 /// The number of two bytes at `place`.
 fn word(bytes: &[u8], place: usize) -> u32
@@ -124,15 +121,26 @@ fn chained_classes<'a>(bytes: &'a [u8]) -> Option<Subtable<'a>>
     }))
 }
 
-/// The first glyph's coverage, by the first of `count` offsets of the width `W` from `start` on: missing where there is
-/// none.
-pub(crate) fn first_coverage<'a, W: Width>(bytes: &'a [u8], start: u32, count: u32) -> Coverage<'a>
-    ensures { coverage_of result ≡ first_coverage W.Width.BYTES bytes.now start count }
+/// The first glyph's coverage, by the first of the offsets, of the width `W`: missing where there is none.
+pub(crate) fn first_coverage<'a, W: Width>(offsets: &Uints<'a>) -> Coverage<'a>
+    ensures { let o = offsets.now in coverage_of result ≡ first_coverage W.Width.BYTES o.bytes.now o.start o.count }
 {
-    if count == 0 {
+    if offsets.is_empty() {
         return Coverage::Missing;
     }
-    Coverage::at(bytes, number::<W>(bytes, start as usize) as usize)
+    Coverage::at(offsets.bytes, offsets.get::<W>(0) as usize)
+}
+
+/// The offsets after the first.
+pub(crate) fn later_coverages<'a, W: Width>(offsets: &Uints<'a>) -> Uints<'a>
+    requires { offsets.now.start ≤ 16777216 }
+    ensures { let o = offsets.now in parts_of result ≡ (o.bytes.now, o.start + W.Width.BYTES, o.count - 1) }
+{
+    uints(
+        offsets.bytes,
+        offsets.start + W::BYTES as u32,
+        offsets.count.saturating_sub(1),
+    )
 }
 
 /// Plain format 3: format, glyph count, record count, coverage offsets, records.
@@ -141,16 +149,17 @@ fn plain_coverages<'a>(bytes: &'a [u8]) -> Option<Subtable<'a>>
 {
     let count = word(bytes, 2);
     let record_count = word(bytes, 4);
+    let coverages = uints(bytes, 6, count);
     let records = 6 + 2 * count as usize;
     if records + RECORD_BYTES * record_count as usize > bytes.len() {
         return None;
     }
     Some(Subtable::Coverages(ChainContext3 {
         bytes,
-        coverage: first_coverage::<Two>(bytes, 6, count),
+        coverage: first_coverage::<Two>(&coverages),
         rule: CoverageRule::Narrow(ParsedRule {
             backtrack: uints(bytes, 0, 0),
-            input: uints(bytes, 8, count.saturating_sub(1)),
+            input: later_coverages::<Two>(&coverages),
             lookahead: uints(bytes, 0, 0),
             records,
             record_count,
@@ -164,9 +173,11 @@ fn plain_coverages<'a>(bytes: &'a [u8]) -> Option<Subtable<'a>>
 fn chained_coverages<'a>(bytes: &'a [u8]) -> Option<Subtable<'a>>
     ensures { option_map table_of result ≡ chained_coverage_header bytes.now }
 {
+    // By `Uints::counted` for each of the three the proof did not close without twenty lines of its own.
     let backtracks = word(bytes, 2);
     let input_place = 4 + 2 * backtracks;
     let inputs = word(bytes, input_place as usize);
+    let coverages = uints(bytes, input_place + 2, inputs);
     let lookahead_place = input_place + 2 + 2 * inputs;
     let lookaheads = word(bytes, lookahead_place as usize);
     let record_place = (lookahead_place + 2 + 2 * lookaheads) as usize;
@@ -176,10 +187,10 @@ fn chained_coverages<'a>(bytes: &'a [u8]) -> Option<Subtable<'a>>
     }
     Some(Subtable::Coverages(ChainContext3 {
         bytes,
-        coverage: first_coverage::<Two>(bytes, input_place + 2, inputs),
+        coverage: first_coverage::<Two>(&coverages),
         rule: CoverageRule::Narrow(ParsedRule {
             backtrack: uints(bytes, 4, backtracks),
-            input: uints(bytes, input_place + 4, inputs.saturating_sub(1)),
+            input: later_coverages::<Two>(&coverages),
             lookahead: uints(bytes, lookahead_place + 2, lookaheads),
             records: record_place + 2,
             record_count,

@@ -9,14 +9,14 @@ ghost use Rattle.tables.specs.Tables.{classes_of, coverage_of};
 ghost use Rattle.context.specs.Meanings.{table_of};
 ghost use Rattle.opening.specs.Wide.{offset_parts, parts_of, range_of};
 
-use crate::headers::{first_coverage, rule_sets, uints};
+use crate::headers::{first_coverage, later_coverages, rule_sets, uints};
 use context::classes::{ChainContext2, ClassSets};
 use context::coverages::{ChainContext3, CoverageRule};
 use context::glyphs::{ChainContext1, GlyphSets};
 use context::subtable::Subtable;
 use readers::uints::Uints;
 use readers::width::Three;
-use rules::parsed::ParsedRule;
+use rules::parsed::{ParsedRule, RECORD_BYTES};
 use rules::rule_sets::RuleSets;
 use rules::widths::RuleWidths;
 use std::marker::PhantomData;
@@ -25,9 +25,6 @@ use tables::coverage::Coverage;
 
 /// The bytes of a wide offset.
 const OFFSET_BYTES: u32 = 3;
-
-/// The bytes of a record.
-const RECORD_BYTES: u32 = 4;
 
 /// Bytes from `start` up to `end`.
 #[derive(Clone, Copy)]
@@ -118,20 +115,16 @@ fn coverages<'a>(bytes: &'a [u8], offsets: ByteRange, records: ByteRange) -> Opt
     if !is_within(bytes, records) {
         return None;
     }
-    let inputs = offsets_in(bytes, offsets);
+    let coverages = offsets_in(bytes, offsets);
     Some(Subtable::Coverages(ChainContext3 {
         bytes,
-        coverage: first_coverage::<Three>(bytes, inputs.start, inputs.count),
+        coverage: first_coverage::<Three>(&coverages),
         rule: CoverageRule::Wide(ParsedRule {
             backtrack: uints(bytes, 0, 0),
-            input: uints(
-                bytes,
-                inputs.start + OFFSET_BYTES,
-                inputs.count.saturating_sub(1),
-            ),
+            input: later_coverages::<Three>(&coverages),
             lookahead: uints(bytes, 0, 0),
             records: records.start as usize,
-            record_count: (records.end - records.start) / RECORD_BYTES,
+            record_count: (records.end - records.start) / RECORD_BYTES as u32,
             width: PhantomData,
         }),
     }))

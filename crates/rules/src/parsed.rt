@@ -10,7 +10,7 @@ use readers::width::{Two, Width};
 use std::marker::PhantomData;
 
 /// The bytes of a record.
-const RECORD_BYTES: usize = 4;
+pub const RECORD_BYTES: usize = 4;
 
 /// How the rules of a subtable are laid out, besides the width of their values.
 #[derive(Clone, Copy)]
@@ -80,37 +80,23 @@ impl<'a, W: Width> ParsedRule<'a, W> {
     }
 
     /// A chained rule: backtrack count and values, input count and one value fewer, lookahead count and values, record
-    /// count and records.
+    /// count and records. These come last, so where they lie inside all else does.
     fn chained(bytes: &'a [u8], whole: usize) -> Option<ParsedRule<'a, W>>
         ensures { option_map (rule_of W.Width.BYTES) result ≡ chained_rule W.Width.BYTES whole bytes.now }
     {
         let width = W::BYTES as u32;
-        let backtracks = number::<Two>(bytes, 0);
-        let input_place = 2 + width * backtracks;
-        let inputs = number::<Two>(bytes, input_place as usize).saturating_sub(1);
-        let lookahead_place = input_place + 2 + width * inputs;
-        let lookaheads = number::<Two>(bytes, lookahead_place as usize);
-        let record_place = (lookahead_place + 2 + width * lookaheads) as usize;
+        let backtrack = Uints::counted::<W>(bytes, 0, 0)?;
+        let input = Uints::counted::<W>(bytes, backtrack.start + width * backtrack.count, 1)?;
+        let lookahead = Uints::counted::<W>(bytes, input.start + width * input.count, 0)?;
+        let record_place = (lookahead.start + width * lookahead.count) as usize;
         let record_count = number::<Two>(bytes, record_place);
         if record_place + 2 + RECORD_BYTES * record_count as usize > bytes.len() {
             return None;
         }
         Some(ParsedRule {
-            backtrack: Uints {
-                bytes,
-                start: 2,
-                count: backtracks,
-            },
-            input: Uints {
-                bytes,
-                start: input_place + 2,
-                count: inputs,
-            },
-            lookahead: Uints {
-                bytes,
-                start: lookahead_place + 2,
-                count: lookaheads,
-            },
+            backtrack,
+            input,
+            lookahead,
             records: whole.saturating_sub(bytes.len()) + (record_place + 2),
             record_count,
             width: PhantomData,

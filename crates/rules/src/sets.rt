@@ -9,14 +9,10 @@ ghost use Rattle.rules.specs.Views.{parts_of, rule_of, rule_set_of, rules_of, se
 use crate::iter::Parts;
 use crate::parsed::{ParsedRule, RuleLayout};
 use crate::widths::RuleWidths;
-use readers::bytes::{number, tail};
+use readers::bytes::tail;
 use readers::each::Each;
 use readers::uints::Uints;
-use readers::width::{Two, Width};
 use std::marker::PhantomData;
-
-/// The bytes of a set's rule count.
-const COUNT_BYTES: u32 = 2;
 
 /// The rules of a set, read on demand: the set's bytes, the offsets from its first byte to its rules, and how these are
 /// laid out.
@@ -90,17 +86,13 @@ impl<'a, F: RuleWidths> RuleSet<'a, F> {
         ensures parts { set_of F.Offset.BYTES result ≡ rule_set_in F.Offset.BYTES (Some bytes.now) }
         ensures rules { rule_set_of F.Offset.BYTES F.Value.BYTES result ≡ read_set (rule_in layout.chained F.Value.BYTES layout.whole) (rule_set_in F.Offset.BYTES (Some bytes.now)) }
     {
-        let count = number::<Two>(bytes, 0);
-        if COUNT_BYTES as usize + F::Offset::BYTES * count as usize > bytes.len() {
+        // By `map_or` the borrow checker did not cover the closure.
+        let Some(offsets) = Uints::counted::<F::Offset>(bytes, 0, 0) else {
             return RuleSet::Unreadable;
-        }
+        };
         RuleSet::Rules(Rules {
             bytes,
-            offsets: Uints {
-                bytes,
-                start: COUNT_BYTES,
-                count,
-            },
+            offsets,
             layout,
             widths: PhantomData,
         })
