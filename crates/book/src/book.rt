@@ -125,8 +125,7 @@ impl<B: Filtering> Book<B> {
         ask_run(run)?;
         let mut found = 0;
         let mut tries = 0;
-        // A bank is asked by place, and with the whole run.
-        for place in 0..run.len() {
+        for (place, _glyph) in run.iter().enumerate() {
             let look = self.look(run, place)?;
             tries += look.tries;
             if let Some(hit) = look.hit {

@@ -107,8 +107,14 @@ fn step(slot: &mut Slot, event: SlotEvent)
     ensures value { slot.new ≡ after slot.old event }
 {
     *slot = match (slot.state, event) {
-        (_, SlotEvent::Granted(digest)) => Slot::held(digest),
-        (_, SlotEvent::Exhausted) => Slot::idle(SlotState::GivenUp),
-        (_, SlotEvent::Forget) => Slot::idle(SlotState::Bare),
+        (SlotState::Bare | SlotState::Held | SlotState::GivenUp, SlotEvent::Granted(digest)) => {
+            Slot::held(digest)
+        }
+        (SlotState::Bare | SlotState::Held | SlotState::GivenUp, SlotEvent::Exhausted) => {
+            Slot::idle(SlotState::GivenUp)
+        }
+        (SlotState::Bare | SlotState::Held | SlotState::GivenUp, SlotEvent::Forget) => {
+            Slot::idle(SlotState::Bare)
+        }
     };
 }
