@@ -191,7 +191,7 @@ impl fmt::Display for Denied {
                 let hits = Listed(list.as_slice());
                 write!(f, "{refusal}{hits}")
             }
-            Denied::Unread(fault) => write!(f, "error: {fault}"),
+            Denied::Unread(why) => write!(f, "error: {why}"),
             Denied::NothingListed => f.write_str("error: nothing listed"),
             Denied::NoBook => f.write_str("error: no book"),
             Denied::BookOpen => f.write_str("error: a book is open"),

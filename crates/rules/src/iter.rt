@@ -21,7 +21,7 @@ impl<'a, F: RuleWidths> Indexed for Rules<'a, F> {
     ghost array = { rules_of F.Offset.BYTES F.Value.BYTES };
 
     fn size(&self) -> u32 {
-        self.len()
+        self.offsets.len()
     }
 
     fn item(&self, index: u32) -> Option<ParsedRule<'a, F::Value>> {
