@@ -87,7 +87,7 @@ fn ends_in_time(table: &ClassDef) -> bool
 {
     match table {
         ClassDef::Array { start, classes } => {
-            classes.count <= GLYPHS && *start as u32 + classes.count <= GLYPHS
+            classes.count <= GLYPHS && u32::from(*start) + classes.count <= GLYPHS
         }
         ClassDef::Missing | ClassDef::Ranges(_) => true,
     }

@@ -24,8 +24,8 @@ fn draw_array(count: u32, budget: &mut Budget) -> Result<(), Exhausted>
     if count > LONGEST_DRAWN {
         return Ok(());
     }
-    budget.work(count as u64)?;
-    budget.bytes(COVERAGE_BYTES * count as u64)
+    budget.work(u64::from(count))?;
+    budget.bytes(COVERAGE_BYTES * u64::from(count))
 }
 
 /// Draws for a rule over coverages: its inputs after the first, its backtrack and its lookahead.

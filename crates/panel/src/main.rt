@@ -14,6 +14,7 @@ use std::io::Read;
 
 /// Works all lines off, in order. Those from `book` to the end of the book are worked off together.
 fn work_off<'a>(rt: &impl Print, script: &'a Script, desk: &mut Desk<'a>) -> anyhow::Result<()> {
+    // A book takes the lines after it, so that no `for` can go over them.
     let mut rest = script.lines.as_slice();
     while let [said, after @ ..] = rest {
         rest = after;

@@ -76,6 +76,7 @@ impl<'a> ClassDef<'a> {
                 Some(index) if index < classes.count => classes.get::<Two>(index),
                 _ => 0,
             },
+            // A match: behind a closure the class is not known to be below 65,536, and the proof did not close.
             ClassDef::Ranges(ranges) => match find(ranges, glyph) {
                 Some(index) => ranges.value(index),
                 None => 0,

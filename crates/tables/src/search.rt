@@ -27,6 +27,7 @@ pub fn find<R: Ranges>(ranges: &R, glyph: u32) -> Option<u32>
     ensures holds { let s = ranges.now in IfSome result (Holds (R.Ranges.starts s) (R.Ranges.ends s) (R.Ranges.size s) glyph) }
     ensures order { let s = ranges.now in FindsExactly (R.Ranges.starts s) (R.Ranges.ends s) (R.Ranges.size s) glyph result }
 {
+    // The entries lie in a font's bytes: there is no slice of them for the library's search.
     let mut low: u32 = 0;
     let mut high = ranges.len();
     while low < high {

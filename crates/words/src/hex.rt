@@ -54,3 +54,23 @@ pub fn hex(heap: Global, word: &[u8]) -> Result<Vec<u8>, Unread>
     }
     Ok(bytes)
 }
+
+#[cfg(test)]
+mod tests {
+    use super::*;
+    use std::test::Fail;
+
+    #[test]
+    fn pairs_of_digits_are_bytes(rt: HostRuntime) -> Result<(), Fail> {
+        let read = hex(rt.alloc(), b"00fFA0");
+        assert!(rt; read.is_ok_and(|bytes| bytes.as_slice() == [0, 255, 160].as_slice()));
+        Ok(())
+    }
+
+    #[test]
+    fn a_dash_stands_for_no_bytes(rt: HostRuntime) -> Result<(), Fail> {
+        let read = hex(rt.alloc(), b"-");
+        assert!(rt; read.is_ok_and(|bytes| bytes.is_empty()));
+        Ok(())
+    }
+}
