@@ -48,7 +48,7 @@ fn add_glyphs(glyphs: &Uints, digest: &mut SetDigest)
     }
 }
 
-/// Adds each range as a span.
+/// Adds each range as a span. Apart from `add_glyphs`: one line over another view, by another call.
 #[tactic(auto, using(opentype::proofs::Sums::sums_fit))]
 fn add_spans(ranges: &RangeRecords, digest: &mut SetDigest)
     ensures masks { let all = ranges_of ranges.now in digest.new.masks ≡ fold_below (λ k ms. add_span ms (all.start k) (all.end k)) all.count digest.old.masks }

@@ -1,4 +1,4 @@
-//! What a walk gathers glyphs in.
+//! The value that goes along a walk.
 use digest::budget::Budget;
 use digest::set_digest::SetDigest;
 

@@ -1,4 +1,4 @@
-//! Why a walk that gathers glyphs ends before its last part.
+//! The ends of a walk that gathers glyphs.
 ghost use Rattle.std.specs.Prelude.{◌≡◌};
 ghost use Rattle.adding.specs.declared.stop.Stop.TheVariants.{Exhausted};
 

@@ -12,6 +12,8 @@ use digest::set_digest::SetDigest;
 pub const MOST_SUBTABLES: u32 = 32;
 
 /// A bank: up to 32 subtables in order, each asked by its number. It means a list of subtables.
+///
+/// A list and its flag, a run and its place go in singly: no fact ties them, and a struct would be made for each call.
 pub trait Matching {
     ghost meaning: { Self → List Subtable };
 

@@ -125,6 +125,7 @@ impl<B: Filtering> Book<B> {
         ask_run(run)?;
         let mut found = 0;
         let mut tries = 0;
+        // By place: a bank is asked for a place in the whole run.
         for (place, _glyph) in run.iter().enumerate() {
             let look = self.look(run, place)?;
             tries += look.tries;

@@ -27,7 +27,8 @@ impl From<SlotState> for u8 {
     }
 }
 
-/// One slot: its state, and which glyphs may follow the first of its subtable. A slot that holds no filter admits all.
+/// One slot: its state, and which glyphs may follow the first of its subtable. A slot that holds no filter admits all; the
+/// digest stands beside the state and not within `Held`, so that a try asks it whatever the state.
 #[derive(Clone, Copy)]
 pub struct Slot {
     pub state: SlotState,
@@ -106,6 +107,7 @@ impl Slots {
 fn step(slot: &mut Slot, event: SlotEvent)
     ensures value { slot.new ≡ after slot.old event }
 {
+    // The states are named, so that one that is added has to say what each event makes of it.
     *slot = match (slot.state, event) {
         (SlotState::Bare | SlotState::Held | SlotState::GivenUp, SlotEvent::Granted(digest)) => {
             Slot::held(digest)

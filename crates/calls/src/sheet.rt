@@ -36,7 +36,7 @@ pub enum Call<'a> {
 }
 
 /// What a granted call tells.
-#[derive(Clone, Copy)]
+#[derive(Clone, Copy, PartialEq, Eq, Debug)]
 pub enum Granted {
     /// Nothing.
     Done,

@@ -30,7 +30,9 @@ const GLYPHS: u32 = 65_536;
 
 /// The rule sets of a subtable over classes, by their widths. In the wide kind set and rule offsets have three bytes;
 /// values always have two.
-#[derive(Drop)]
+///
+/// Each call is one arm for each width: a trait with a generic method, or a macro, would be longer than the arms.
+#[derive(Clone, Copy)]
 pub enum ClassSets<'a> {
     Narrow(RuleSets<'a, Narrow>),
     Wide(RuleSets<'a, WideClasses>),

@@ -22,7 +22,9 @@ use rules::walk::{ChainMatchers, Found};
 use tables::coverage::Coverage;
 
 /// A rule over coverages, by the width of its values. In the wide kind these have three bytes.
-#[derive(Drop)]
+///
+/// Each call is one arm for each width: a trait with a generic method, or a macro, would be longer than the arms.
+#[derive(Clone, Copy)]
 pub enum CoverageRule<'a> {
     Narrow(ParsedRule<'a, Two>),
     Wide(ParsedRule<'a, Three>),

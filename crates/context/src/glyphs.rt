@@ -23,7 +23,9 @@ use tables::coverage::Coverage;
 
 /// The rule sets of a subtable over glyphs, by their widths. In the wide kind set offsets and values have three bytes, and
 /// so have rule offsets if the rules are chained.
-#[derive(Drop)]
+///
+/// Each call is one arm for each width: a trait with a generic method, or a macro, would be longer than the arms.
+#[derive(Clone, Copy)]
 pub enum GlyphSets<'a> {
     Narrow(RuleSets<'a, Narrow>),
     Wide(RuleSets<'a, WideGlyphs>),

@@ -17,8 +17,8 @@ struct Shift {
     ghost within: { by < 32 },
 }
 
-/// The shifts of the three masks. Beside the masks, which are one list in every definition: three lines, one for each, are
-/// plainer than a loop over both.
+/// The shifts of the three masks. They stand beside the masks and not with them, since every definition has the masks as
+/// one list; three lines, one for each, are plainer than a loop over both.
 const SHIFTS: [Shift; 3] = [Shift { by: 4 }, Shift { by: 0 }, Shift { by: 6 }];
 
 impl Shift {

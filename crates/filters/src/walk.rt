@@ -106,7 +106,8 @@ pub fn add_sets<F: RuleWidths, A: AddSecond>(
     settle(walked, gathering.digest)
 }
 
-/// The filter of one rule.
+/// The filter of one rule. It gathers as `add_sets` does: they differ in the draw and in the walk, and one text over both
+/// would be told the walk by a clause.
 pub fn add_rule_alone<W: Width, A: AddSecond>(
     rule: &ParsedRule<W>,
     adding: &A,
@@ -126,6 +127,7 @@ pub fn add_rule_alone<W: Width, A: AddSecond>(
 fn settle(walked: Result<(), Stop>, digest: SetDigest) -> Result<SetDigest, Exhausted>
     ensures masks { masks_in result ≡ gathered walked digest.masks }
 {
+    // Three cases, two of which are answers.
     match walked {
         Ok(()) => Ok(digest),
         Err(Stop::AnyGlyph) => Ok(SetDigest::full()),

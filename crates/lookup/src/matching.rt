@@ -75,7 +75,7 @@ impl<'a> Filtering for Lookup<'a> {
     }
 
     fn digest_second(&self, k: u32, budget: &mut Budget) -> Result<SetDigest, Refusal> {
-        // A match, since a closure that draws on the allowance would change what it captures.
+        // A match: a closure here would capture the allowance and change it, which is no plainer.
         match self.at(k) {
             Some(subtable) => subtable.digest(budget),
             None => Ok(SetDigest::full()),

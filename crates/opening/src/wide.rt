@@ -80,7 +80,7 @@ fn coverage_in<'a>(bytes: &'a [u8], range: ByteRange) -> Coverage<'a>
     part(bytes, range).map_or(Coverage::Missing, |table| Coverage::new(table))
 }
 
-/// The class table in a range: missing where the range is not inside.
+/// The class table in a range, likewise: a trait over the two kinds of table would be longer than both lines.
 fn classes_in<'a>(bytes: &'a [u8], range: ByteRange) -> ClassDef<'a>
     ensures { classes_of result ≡ classes_in (part_of bytes.now (range_of range)) }
 {

@@ -56,6 +56,7 @@ impl<'a> Desk<'a> {
 
     /// Carries one command out, while there is no book.
     pub fn carry_out(&mut self, command: &'a Command) -> Result<Reply, Failed> {
+        // A match: both arms want the desk or an early way out.
         match at_any_time(command) {
             Some(response) => Ok(response?),
             None => self.without_a_book(command),
@@ -151,6 +152,7 @@ impl<'a> Desk<'a> {
     /// Makes the listed subtables a bank, and those put aside another. More than 32 of either stay where they are.
     pub(crate) fn banks(&mut self) -> Option<Banks<'a>> {
         let bank = taken(self.heap, &mut self.listed)?;
+        // The other arm puts the subtables back.
         match taken(self.heap, &mut self.aside) {
             Some(beside) => Some(Banks { bank, beside }),
             None => {
@@ -193,6 +195,7 @@ impl<'a> Desk<'a> {
 
 /// A bank of all subtables of a list. More than 32 stay where they are.
 fn taken<'a>(heap: Global, list: &mut Vec<Subtable<'a>>) -> Option<Lookup<'a>> {
+    // The other arm puts the subtables back.
     match Lookup::new(std::mem::replace(list, Vec::new(heap))) {
         Ok(bank) => Some(bank),
         Err(subtables) => {
@@ -212,6 +215,7 @@ pub(crate) fn nth<'l, 'a>(
 
 /// What a command is answered, where there was memory for it.
 pub(crate) fn answered<T: Drop>(done: Result<T, Failed>) -> Result<Result<T, Denied>, AllocError> {
+    // No method turns one result into two by the kind of its error.
     match done {
         Ok(value) => Ok(Ok(value)),
         Err(Failed::Denied(denied)) => Ok(Err(denied)),

@@ -29,6 +29,7 @@ const NO_HIT: Hit = Hit {
 pub(crate) fn sheet_length(lines: &[Result<Command, Fault>]) -> usize
     ensures { result ≤ length lines.now }
 {
+    // By index: of the first line that ends the sheet it is told whether the line is its own, which `position` does not.
     for (i, said) in lines.iter().enumerate() {
         match said {
             Ok(Command::OnBook(BookCommand::End)) => return i + 1,
@@ -202,6 +203,7 @@ impl<'view> Sheet<'view> {
                     work: left.work,
                     bytes: left.bytes,
                 }),
+                // A match: a closure would change what is left.
                 Step::Called => match lines.next() {
                     Some(line) => {
                         left = line.left;

@@ -24,7 +24,7 @@ pub trait Indexed {
         ensures { shows result ≡ (array self.now).entry index };
 }
 
-/// The items of a view from one on, in order.
+/// The items of a view from item `at` on, in order.
 #[derive(Drop)]
 pub struct Each<V> {
     view: V,

@@ -12,7 +12,8 @@ use std::marker::PhantomData;
 /// The bytes of an array's count.
 const COUNT_BYTES: u32 = 2;
 
-/// Numbers of one width, one after another from the place `start` on: the functions that read them name the width.
+/// Numbers of one width, one after another from the place `start` on: the functions that read them name the width, since
+/// the views that are made of these name all their widths.
 #[derive(Clone, Copy)]
 pub struct Uints<'a> {
     pub bytes: &'a [u8],
@@ -102,7 +103,7 @@ pub fn counted_entries(bytes: &[u8], place: u32, less: u32, size: u16) -> Option
 {
     let count = read::<Two>(bytes, place as usize)?.saturating_sub(less);
     let start = place.checked_add(COUNT_BYTES)?;
-    if start as usize + size as usize * count as usize > bytes.len() {
+    if start as usize + usize::from(size) * count as usize > bytes.len() {
         return None;
     }
     Some((start, count))

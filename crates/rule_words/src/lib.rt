@@ -93,7 +93,8 @@ fn set_word<F: RuleWidths>(
     }
 }
 
-/// The word of a set's rules: none where a rule has no first input.
+/// The word of a set's rules: none where a rule has no first input. `chained` goes beside the rules, since that a set keeps
+/// the layout of its subtable is said of parsed rules alone.
 fn rules_word<F: RuleWidths>(rules: &Rules<F>, chained: bool) -> Option<RuleSetDigest>
     ensures word { let parts = parts_of F.Offset.BYTES rules.now in option_map (λ d. d.word) result ≡ word_below (λ k. first_input_in chained 2 (parts.entry k)) parts.count }
 {

@@ -25,7 +25,8 @@ pub(crate) fn matches_from<W: Width, M: ValueMatch>(
             .all(|(value, glyph)| matcher.matches(value, *glyph))
 }
 
-/// Whether value 0 matches the glyph just before `place`, value 1 the one before that, and so outwards.
+/// Whether value 0 matches the glyph just before `place`, value 1 the one before that, and so outwards. Apart from
+/// `matches_from`: the glyphs are another iterator type, and one text over both would be told its list by a clause.
 pub(crate) fn matches_before<W: Width, M: ValueMatch>(
     values: &Uints,
     matcher: &M,

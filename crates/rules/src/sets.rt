@@ -61,7 +61,8 @@ impl<'a, F: RuleWidths> Rules<'a, F> {
     }
 }
 
-/// A rule set of a subtable.
+/// A rule set of a subtable. Not an `Option`: a filter passes a null set over and stops at an unreadable one, and their
+/// words differ.
 #[derive_where(Clone, Copy)]
 pub enum RuleSet<'a, F> {
     Null,
@@ -86,7 +87,7 @@ impl<'a, F: RuleWidths> RuleSet<'a, F> {
         ensures parts { set_of F.Offset.BYTES result ≡ rule_set_in F.Offset.BYTES (Some bytes.now) }
         ensures rules { rule_set_of F.Offset.BYTES F.Value.BYTES result ≡ read_set (rule_in layout.chained F.Value.BYTES layout.whole) (rule_set_in F.Offset.BYTES (Some bytes.now)) }
     {
-        // By `map_or` the borrow checker did not cover the closure.
+        // Tried with `map_or`: the borrow checker does not cover that closure.
         let Some(offsets) = Uints::counted::<F::Offset>(bytes, 0, 0) else {
             return RuleSet::Unreadable;
         };

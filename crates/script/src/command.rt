@@ -166,7 +166,7 @@ impl BookVerb {
 }
 
 impl Verb {
-    /// Every verb.
+    /// Every verb. By hand: no derive lists an enum's variants, nor gives their words.
     const ALL: [Verb; 23] = [
         Verb::Coverage,
         Verb::Class,

@@ -55,6 +55,7 @@ fn read_line(heap: Global, line: &[u8]) -> Result<Option<Result<Command, Fault>>
     let Some(word) = words.next() else {
         return Ok(None);
     };
+    // No method turns one result into two by the kind of its error.
     match command(heap, word, words) {
         Ok(command) => Ok(Some(Ok(command))),
         Err(Unread::Fault(fault)) => Ok(Some(Err(fault))),

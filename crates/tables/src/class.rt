@@ -37,6 +37,8 @@ pub enum ClassDef<'a> {
 }
 
 impl<'a> ClassDef<'a> {
+    // Beside `Coverage::new` and `at`, which read in the same way: a trait over the two would be longer than both.
+
     /// The class table that `bytes` begin with.
     pub fn new(bytes: &'a [u8]) -> ClassDef<'a>
         ensures value { classes_of result ≡ classes_in (Some bytes.now) }
@@ -70,13 +72,13 @@ impl<'a> ClassDef<'a> {
         ensures answers { ClassAnswers (classes_of self.now) glyph result }
         ensures bound { result < 65536 }
     {
+        // Matches within: behind a closure the class is not known to be below 65,536, and the proof did not close.
         match self {
             ClassDef::Missing => 0,
             ClassDef::Array { start, classes } => match glyph.checked_sub(u32::from(*start)) {
                 Some(index) if index < classes.count => classes.get::<Two>(index),
                 _ => 0,
             },
-            // A match: behind a closure the class is not known to be below 65,536, and the proof did not close.
             ClassDef::Ranges(ranges) => match find(ranges, glyph) {
                 Some(index) => ranges.value(index),
                 None => 0,

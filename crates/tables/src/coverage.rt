@@ -24,7 +24,8 @@ const COUNT_PLACE: u32 = 2;
 /// The largest coverage index.
 const LAST_INDEX: u32 = 65_535;
 
-/// A coverage table: the glyphs that it covers, each with its coverage index.
+/// A coverage table: the glyphs that it covers, each with its coverage index. A missing one is a case, as in harfrust, and
+/// not an `Option` around it: every call answers on it too.
 #[derive(Clone, Copy)]
 pub enum Coverage<'a> {
     /// A null or unreadable table, which covers nothing.

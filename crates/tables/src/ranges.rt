@@ -86,7 +86,7 @@ impl<'a> RangeRecords<'a> {
         ensures value { result ≡ self.now.start + 6 * index }
         ensures bound { result < 2 ^ 35 }
     {
-        self.start as usize + RECORD_BYTES as usize * index as usize
+        self.start as usize + usize::from(RECORD_BYTES) * index as usize
     }
 }
 

@@ -53,6 +53,7 @@ impl FromWord for usize {
 
     fn from_word(word: &[u8]) -> Result<usize, Fault> {
         let value = u64::from_word(word)?;
+        // Of 64 bits here, and there is no `From`.
         Ok(value as usize)
     }
 }
