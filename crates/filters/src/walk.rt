@@ -135,7 +135,7 @@ fn settle(walked: Result<(), Stop>, digest: SetDigest) -> Result<SetDigest, Exha
     }
 }
 
-/// Adds each set in turn.
+/// Adds each set in turn. `adding` and `gathering` go in singly, as the trait's methods take them.
 fn add_each_set<F: RuleWidths, A: AddSecond>(
     sets: &RuleSets<F>,
     adding: &A,

@@ -75,7 +75,7 @@ impl<'a> Filtering for Lookup<'a> {
     }
 
     fn digest_second(&self, k: u32, budget: &mut Budget) -> Result<SetDigest, Refusal> {
-        // A match: a closure here would capture the allowance and change it, which is no plainer.
+        // By `map_or` the proof did not close: what the closure drew was not known behind it.
         match self.at(k) {
             Some(subtable) => subtable.digest(budget),
             None => Ok(SetDigest::full()),

@@ -56,7 +56,7 @@ impl<'a> Desk<'a> {
 
     /// Carries one command out, while there is no book.
     pub fn carry_out(&mut self, command: &'a Command) -> Result<Reply, Failed> {
-        // A match: both arms want the desk or an early way out.
+        // A match: one arm may leave by `?`, the other works on the desk.
         match at_any_time(command) {
             Some(response) => Ok(response?),
             None => self.without_a_book(command),

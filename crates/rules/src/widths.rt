@@ -1,7 +1,8 @@
 //! The widths of the numbers in the rule sets of a subtable.
 use readers::width::{Three, Two, Width};
 
-/// How wide the numbers in the rule sets of a kind of subtable are.
+/// How wide the numbers in the rule sets of a kind of subtable are. Contracts name the three widths, since definitions take
+/// numbers.
 pub trait RuleWidths {
     /// The width of the offsets to the sets.
     type Set: Width;

@@ -50,6 +50,7 @@ impl<'a> Iterator for Words<'a> {
         let (_, text) = self.rest.split_at(leading_spaces(self.rest));
         let (word, rest) = text.split_at(index_of(text, SPACE));
         self.rest = rest;
+        // An `if`, each case of which is proved by itself: `then_some` makes one goal of both.
         if word.is_empty() { None } else { Some(word) }
     }
 }
