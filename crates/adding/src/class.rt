@@ -88,6 +88,7 @@ impl Gathering<'_> {
 fn add_entries(start: u16, classes: &Uints, class: u32, digest: &mut SetDigest)
     ensures masks { digest.new.masks ≡ add_entries start class (uints_of 2 classes.now) digest.old.masks }
 {
+    // With its number, which is part of the glyph; `enumerate` would count in another type.
     for (k, entry) in (0..classes.len()).zip(classes.iter::<Two>()) {
         if entry == class {
             digest.add(u32::from(start).saturating_add(k).min(LAST_GLYPH));

@@ -36,6 +36,7 @@ impl From<Refusal> for u8 {
 
     /// The refusal's number.
     fn from(refusal: Refusal) -> u8 {
+        // The number of a case is had by `as` alone.
         refusal as u8
     }
 }

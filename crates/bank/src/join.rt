@@ -56,7 +56,7 @@ fn renumber(answer: Result<Option<Hit>, Refusal>, k: u32) -> Result<Option<Hit>,
 impl<A: Matching, B: Matching> Join<A, B> {
     /// The number that subtable `k` has in the second bank; none where the first bank answers for it. The first bank has
     /// at most 32 subtables, so that a number past 32 is past its last: it answers for that too. Each call chooses by a
-    /// `match`, whose arms are calls: `map_or_else` would put them into closures, and one of them draws.
+    /// `match`: `map_or_else` would write its arms as two closures, which is no plainer.
     fn in_second(&self, k: u32) -> Option<u32>
         ensures { let all = joined_banks (A.Matching.meaning self.now.first) (B.Matching.meaning self.now.second) in
             MatchOption result (subtable (A.Matching.meaning self.now.first) k ≡ subtable all k)

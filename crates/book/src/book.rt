@@ -123,6 +123,7 @@ impl<B: Filtering> Book<B> {
         ensures list { hits.new ≡ scan_list (B.Matching.meaning self.now.bank) self.now.slots.table run.now hits.old }
     {
         ask_run(run)?;
+        // The list is lent and has its count beside it: no call of a book allocates.
         let mut found = 0;
         let mut tries = 0;
         // By place: a bank is asked for a place in the whole run.

@@ -23,6 +23,7 @@ impl From<SlotState> for u8 {
     ghost from_gives = { λ state number. number ≡ state_number state };
 
     fn from(state: SlotState) -> u8 {
+        // The number of a case is had by `as` alone.
         state as u8
     }
 }
@@ -68,7 +69,7 @@ pub enum SlotEvent {
     Forget,
 }
 
-/// The slots of a book.
+/// The slots of a book: fixed memory, since no call of a book allocates.
 #[derive(Drop)]
 pub struct Slots {
     pub table: [Slot; SLOTS],

@@ -47,6 +47,7 @@ impl<'a> Desk<'a> {
         &mut self,
         said: &'a Result<Command, Fault>,
     ) -> Result<Response, AllocError> {
+        // Three cases, of two types within one another: no method tells them apart.
         match said {
             Ok(Command::Book) => Ok(Err(Refusal::TooManySubtables.into())),
             Ok(command) => answered(self.carry_out(command)),
@@ -139,6 +140,7 @@ impl<'a> Desk<'a> {
             return Err(Denied::NotClasses.into());
         };
         let mut words = Vec::from_elem(self.heap, UNFILLED, count as usize)?;
+        // A match: a refused fill tells its buffer, but for one that was too short.
         match view.fill_words(&mut words, &mut self.budget) {
             Ok(()) => Ok(Reply::Words {
                 count: view.set_count(),

@@ -35,7 +35,7 @@ fn work_off<'a>(rt: &impl Print, script: &'a Script, desk: &mut Desk<'a>) -> any
 
 /// Prints what a command is answered, as a line.
 fn print(rt: &impl Print, response: &Response) -> anyhow::Result<()> {
-    // Both print, but they are of two types.
+    // A match: a reply and a denial are two types, each printed by its own.
     match response {
         Ok(reply) => println!(rt; "{reply}")?,
         Err(denied) => println!(rt; "{denied}")?,

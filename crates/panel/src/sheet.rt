@@ -29,7 +29,7 @@ const NO_HIT: Hit = Hit {
 pub(crate) fn sheet_length(lines: &[Result<Command, Fault>]) -> usize
     ensures { result ≤ length lines.now }
 {
-    // By index: of the first line that ends the sheet it is told whether the line is its own, which `position` does not.
+    // By index: `position` tells which line ends the sheet, and not whether that line is the book's own.
     for (i, said) in lines.iter().enumerate() {
         match said {
             Ok(Command::OnBook(BookCommand::End)) => return i + 1,
@@ -84,6 +84,7 @@ impl<'view> Sheet<'view> {
         beside: &'view Lookup<'a>,
         said: &'s Result<Command, Fault>,
     ) -> Result<(), AllocError> {
+        // A match: a command comes to a step, for which there has to be memory, and a fault does not.
         let step = match said {
             Ok(command) => answered(self.step(beside, command))?,
             Err(fault) => Err((*fault).into()),
@@ -227,6 +228,7 @@ fn told(line: Line<'_>, count: u32) -> Response {
         answer,
         left: _,
     } = line;
+    // A match: what was granted makes five replies, and a refusal takes the lists with it.
     match answer.unwrap_or(Ok(Granted::Done)) {
         Ok(Granted::Done) => Ok(done(call, words, count)),
         Ok(Granted::StateIs(state)) => Ok(Reply::State(state)),

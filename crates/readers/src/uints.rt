@@ -13,7 +13,7 @@ use std::marker::PhantomData;
 const COUNT_BYTES: u32 = 2;
 
 /// Numbers of one width, one after another from the place `start` on: the functions that read them name the width, since
-/// the views that are made of these name all their widths.
+/// the type of a view made of these names it already.
 #[derive(Clone, Copy)]
 pub struct Uints<'a> {
     pub bytes: &'a [u8],

@@ -87,7 +87,7 @@ impl<'a, F: RuleWidths> RuleSet<'a, F> {
         ensures parts { set_of F.Offset.BYTES result ≡ rule_set_in F.Offset.BYTES (Some bytes.now) }
         ensures rules { rule_set_of F.Offset.BYTES F.Value.BYTES result ≡ read_set (rule_in layout.chained F.Value.BYTES layout.whole) (rule_set_in F.Offset.BYTES (Some bytes.now)) }
     {
-        // Tried with `map_or`: the borrow checker does not cover that closure.
+        // By `map_or` the check did not go through: it does not cover that closure's borrow.
         let Some(offsets) = Uints::counted::<F::Offset>(bytes, 0, 0) else {
             return RuleSet::Unreadable;
         };

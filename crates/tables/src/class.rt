@@ -25,7 +25,7 @@ const CLASS_COUNT_PLACE: u32 = 4;
 /// Where the count of ranges stands, behind the format.
 const RANGE_COUNT_PLACE: u32 = 2;
 
-/// A class table: the class of each glyph, 0 where it gives none.
+/// A class table: the class of each glyph, 0 where it gives none. A missing one is a case, as in harfrust and in `Coverage`.
 #[derive(Clone, Copy)]
 pub enum ClassDef<'a> {
     /// A null or unreadable table, in which every class is 0.

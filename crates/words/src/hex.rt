@@ -12,7 +12,7 @@ use std::alloc::Global;
 /// The word that stands for no bytes.
 const NO_BYTES: &[u8] = b"-";
 
-/// Whether every byte is a hexadecimal digit.
+/// Whether every byte is a hexadecimal digit. Beside `all_digits`: each is one call of the library, by another test.
 fn all_hex(word: &[u8]) -> bool
     ensures { result ≡ list_all is_ascii_hexdigit word.now }
 {

@@ -15,7 +15,7 @@ pub fn index_of(text: &[u8], b: u8) -> usize
     text.iter().position(|x| *x == b).unwrap_or(text.len())
 }
 
-/// How many spaces the text begins with.
+/// How many spaces the text begins with. Beside `index_of`: each is one call of the library, by another test.
 fn leading_spaces(text: &[u8]) -> usize
     ensures value { result ≡ leading 32 text.now }
     ensures within { result ≤ length text.now }
