@@ -12,10 +12,12 @@ use lookup::list::Lookup;
 use opening::open::{open, open_wide};
 use replies::reply::{Denied, Reply, Response};
 use script::command::Command;
+use script::reader::Script;
 use std::alloc::{AllocError, Global};
 use tables::class::ClassDef;
 use tables::coverage::Coverage;
 use words::fault::Fault;
+use words::span::Span;
 
 /// What every word of a buffer holds before a fill.
 pub(crate) const UNFILLED: u64 = 0x5555_5555_5555_5555;
@@ -45,36 +47,46 @@ impl<'a> Desk<'a> {
     /// Answers a line while there is no book. One that would start a book comes here only where it cannot be started.
     pub(crate) fn answer(
         &mut self,
-        said: &'a Result<Command, Fault>,
+        script: &'a Script,
+        said: Result<Command, Fault>,
     ) -> Result<Response, AllocError> {
         // Three cases, of two types within one another: no method tells them apart.
         match said {
             Ok(Command::Book) => Ok(Err(Refusal::TooManySubtables.into())),
-            Ok(command) => answered(self.carry_out(command)),
-            Err(fault) => Ok(Err((*fault).into())),
+            Ok(command) => answered(self.carry_out(script, command)),
+            Err(fault) => Ok(Err(fault.into())),
         }
     }
 
     /// Carries one command out, while there is no book.
-    pub fn carry_out(&mut self, command: &'a Command) -> Result<Reply, Failed> {
+    pub fn carry_out(&mut self, script: &'a Script, command: Command) -> Result<Reply, Failed> {
         // A match: one arm may leave by `?`, the other works on the desk.
-        match at_any_time(command) {
+        match at_any_time(script, command) {
             Some(response) => Ok(response?),
-            None => self.without_a_book(command),
+            None => self.without_a_book(script, command),
         }
     }
 
     /// Carries out a command that works on the allowance or on the lists.
-    fn without_a_book(&mut self, command: &'a Command) -> Result<Reply, Failed> {
+    fn without_a_book(&mut self, script: &'a Script, command: Command) -> Result<Reply, Failed> {
+        let runs = script.glyphs.as_slice();
         match command {
-            Command::Allowance { work, bytes } => Ok(self.renew(*work, *bytes)),
+            Command::Allowance { work, bytes } => Ok(self.renew(work, bytes)),
             Command::Left => Ok(self.left()),
             Command::Open { table, chained } => {
-                let opened = open(table.as_slice(), *chained, &mut self.budget)?;
+                let opened = open(
+                    at(script.bytes.as_slice(), table),
+                    chained,
+                    &mut self.budget,
+                )?;
                 self.list(opened)
             }
             Command::OpenWide { table, parts } => {
-                let opened = open_wide(table.as_slice(), *parts, &mut self.budget)?;
+                let opened = open_wide(
+                    at(script.bytes.as_slice(), table),
+                    parts,
+                    &mut self.budget,
+                )?;
                 self.list(opened)
             }
             Command::Hit {
@@ -82,7 +94,7 @@ impl<'a> Desk<'a> {
                 place,
                 glyphs,
             } => {
-                let hit = nth(&self.listed, *subtable)?.hit(glyphs.as_slice(), *place)?;
+                let hit = nth(&self.listed, subtable)?.hit(at(runs, glyphs), place)?;
                 Ok(Reply::Hit(hit))
             }
             Command::Applies {
@@ -90,16 +102,16 @@ impl<'a> Desk<'a> {
                 zero_context,
                 glyphs,
             } => {
-                let subtable = nth(&self.listed, *subtable)?;
-                let applies = subtable.would_apply(glyphs.as_slice(), *zero_context)?;
+                let subtable = nth(&self.listed, subtable)?;
+                let applies = subtable.would_apply(at(runs, glyphs), zero_context)?;
                 Ok(Reply::Applies(applies))
             }
             Command::Aside => self.put_aside(),
             Command::Masks { subtable } => {
-                let digest = nth(&self.listed, *subtable)?.digest(&mut self.budget)?;
+                let digest = nth(&self.listed, subtable)?.digest(&mut self.budget)?;
                 Ok(Reply::Masks(digest.masks()))
             }
-            Command::Words { subtable, count } => self.words(*subtable, *count),
+            Command::Words { subtable, count } => self.words(subtable, count),
             _ => Err(Denied::NoBook.into()),
         }
     }
@@ -167,14 +179,15 @@ impl<'a> Desk<'a> {
     /// Works off the lines of a book, from its start to its end, and lists the subtables again.
     pub(crate) fn work_book(
         &mut self,
+        script: &'a Script,
         banks: Banks<'a>,
-        lines: &'a [Result<Command, Fault>],
+        lines: &[Result<Command, Fault>],
     ) -> Result<Vec<Response>, AllocError> {
         let Banks { bank, beside } = banks;
         let before = Left::of(&self.budget);
         let mut sheet = Sheet::new(self.heap, bank.count());
         for said in lines {
-            sheet.add(&beside, said)?;
+            sheet.add(script, &beside, *said)?;
         }
         let bank = sheet.work(bank, &beside, &mut self.budget);
         let responses = sheet.responses(before)?;
@@ -226,20 +239,26 @@ pub(crate) fn answered<T: Drop>(done: Result<T, Failed>) -> Result<Result<T, Den
 }
 
 /// Carries out a command that stands on its arguments alone; none of the others.
-pub(crate) fn at_any_time(command: &Command) -> Option<Response> {
+pub(crate) fn at_any_time(script: &Script, command: Command) -> Option<Response> {
+    let bytes = script.bytes.as_slice();
     match command {
         Command::Coverage { table, glyph } => {
-            let index = Coverage::new(table.as_slice()).get(*glyph);
+            let index = Coverage::new(at(bytes, table)).get(glyph);
             Some(Ok(Reply::Index(index)))
         }
         Command::Class { table, glyph } => {
-            let class = ClassDef::new(table.as_slice()).get(*glyph);
+            let class = ClassDef::new(at(bytes, table)).get(glyph);
             Some(Ok(Reply::Class(class)))
         }
-        Command::DigestOf { glyphs } => Some(Ok(masks_of(glyphs.as_slice()))),
-        Command::DigestSpan { first, last } => Some(masks_of_span(*first, *last)),
+        Command::DigestOf { glyphs } => Some(Ok(masks_of(at(script.glyphs.as_slice(), glyphs)))),
+        Command::DigestSpan { first, last } => Some(masks_of_span(first, last)),
         _ => None,
     }
+}
+
+/// The elements of a buffer at a span. Every span of a script that was read lies inside its buffer.
+pub(crate) fn at<'a, T>(buffer: &'a [T], span: Span) -> &'a [T] {
+    buffer.get(span.start..span.end).unwrap_or(&[])
 }
 
 /// The masks of these glyphs.

@@ -21,14 +21,14 @@ fn work_off<'a>(rt: &impl Print, script: &'a Script, desk: &mut Desk<'a>) -> any
         if let Ok(Command::Book) = said {
             if let Some(banks) = desk.banks() {
                 let (sheet, next) = after.split_at(sheet_length(after));
-                for response in &desk.work_book(banks, sheet)? {
+                for response in &desk.work_book(script, banks, sheet)? {
                     print(rt, response)?;
                 }
                 rest = next;
                 continue;
             }
         }
-        print(rt, &desk.answer(said)?)?;
+        print(rt, &desk.answer(script, *said)?)?;
     }
     Ok(())
 }

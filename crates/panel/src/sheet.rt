@@ -1,7 +1,7 @@
 //! The lines from `book` to the end of the book: one list of calls, worked off together.
 ghost use Rattle.std.specs.Prelude.{◌≤◌, length};
 
-use crate::desk::{MOST_WORDS, UNFILLED, answered, at_any_time, nth};
+use crate::desk::{MOST_WORDS, UNFILLED, answered, at, at_any_time, nth};
 use crate::failed::Failed;
 use answers::questions::MOST_GLYPHS;
 use answers::{Hit, Refusal};
@@ -13,6 +13,7 @@ use lookup::list::Lookup;
 use replay::replay;
 use replies::reply::{Denied, Reply, Response};
 use script::command::{BookCommand, Command};
+use script::reader::Script;
 use std::alloc::{AllocError, Global};
 use words::fault::Fault;
 
@@ -81,13 +82,14 @@ impl<'view> Sheet<'view> {
     /// Adds a line.
     pub(crate) fn add<'s: 'view, 'a: 'view>(
         &mut self,
+        script: &'s Script,
         beside: &'view Lookup<'a>,
-        said: &'s Result<Command, Fault>,
+        said: Result<Command, Fault>,
     ) -> Result<(), AllocError> {
         // A match: a command comes to a step, for which there has to be memory, and a fault does not.
         let step = match said {
-            Ok(command) => answered(self.step(beside, command))?,
-            Err(fault) => Err((*fault).into()),
+            Ok(command) => answered(self.step(script, beside, command))?,
+            Err(fault) => Err(fault.into()),
         };
         self.steps
             .push(step.unwrap_or_else(|denied| Step::Said(Err(denied))))?;
@@ -97,37 +99,41 @@ impl<'view> Sheet<'view> {
     /// What a command comes to.
     fn step<'s: 'view, 'a: 'view>(
         &mut self,
+        script: &'s Script,
         beside: &'view Lookup<'a>,
-        command: &'s Command,
+        command: Command,
     ) -> Result<Step, Failed> {
+        let bytes = script.bytes.as_slice();
         match command {
             Command::Left => Ok(Step::Left),
-            Command::Open { table, chained } => self.call(Call::Open(table.as_slice(), *chained)),
+            Command::Open { table, chained } => self.call(Call::Open(at(bytes, table), chained)),
             Command::OpenWide { table, parts } => {
-                self.call(Call::OpenWide(table.as_slice(), *parts))
+                self.call(Call::OpenWide(at(bytes, table), parts))
             }
-            Command::OnBook(command) => self.on_book(beside, command),
-            _ => Ok(Step::Said(at_any_time(command).unwrap_or(Err(Denied::BookOpen)))),
+            Command::OnBook(command) => self.on_book(script, beside, command),
+            _ => Ok(Step::Said(at_any_time(script, command).unwrap_or(Err(Denied::BookOpen)))),
         }
     }
 
     /// What a command on the book comes to.
     fn on_book<'s: 'view, 'a: 'view>(
         &mut self,
+        script: &'s Script,
         beside: &'view Lookup<'a>,
-        command: &'s BookCommand,
+        command: BookCommand,
     ) -> Result<Step, Failed> {
+        let runs = script.glyphs.as_slice();
         match command {
-            BookCommand::Filter { subtable } => self.call(Call::Filter(*subtable)),
-            BookCommand::Forget { subtable } => self.call(Call::Forget(*subtable)),
-            BookCommand::State { subtable } => self.call(Call::State(*subtable)),
+            BookCommand::Filter { subtable } => self.call(Call::Filter(subtable)),
+            BookCommand::Forget { subtable } => self.call(Call::Forget(subtable)),
+            BookCommand::State { subtable } => self.call(Call::State(subtable)),
             BookCommand::WouldApply {
                 zero_context,
                 glyphs,
-            } => self.call(Call::WouldApply(glyphs.as_slice(), *zero_context)),
-            BookCommand::Scan { count, glyphs } => self.scan(*count, glyphs.as_slice()),
-            BookCommand::MasksBeside { subtable } => self.call(Call::FilterBeside(*subtable)),
-            BookCommand::WordsBeside { subtable, count } => self.fill(beside, *subtable, *count),
+            } => self.call(Call::WouldApply(at(runs, glyphs), zero_context)),
+            BookCommand::Scan { count, glyphs } => self.scan(count, at(runs, glyphs)),
+            BookCommand::MasksBeside { subtable } => self.call(Call::FilterBeside(subtable)),
+            BookCommand::WordsBeside { subtable, count } => self.fill(beside, subtable, count),
             BookCommand::Anew => self.call(Call::Anew),
             BookCommand::End => Ok(Step::Said(Ok(Reply::Ended(self.count)))),
         }

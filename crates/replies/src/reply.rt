@@ -169,7 +169,7 @@ impl fmt::Display for Reply {
                 write!(f, "state {number}")
             }
             Reply::Scan { hits, tries, list } => {
-                let first = Listed(list.get(..*hits).unwrap_or(&[]));
+                let first = Listed(list.get(..*hits).unwrap_or(list.as_slice()));
                 write!(f, "scan {hits} {tries}{first}")
             }
             Reply::Opened => f.write_str("opened"),

@@ -3,6 +3,7 @@ ghost use Rattle.std.specs.Prelude.{◌≡◌};
 ghost use Rattle.script.specs.Verbs.{book_name_of, name_of, verb_in};
 
 use opening::wide::WideParts;
+use words::span::Span;
 
 /// The first word of a command.
 #[derive(Clone, Copy)]
@@ -38,22 +39,22 @@ pub enum BookVerb {
     End,
 }
 
-/// A command with its arguments.
-#[derive(Drop)]
+/// A command with its arguments. Bytes and glyphs stand in the script's buffers: so a command is copied.
+#[derive(Clone, Copy)]
 pub enum Command {
     /// Asks the coverage table in these bytes for a glyph.
     Coverage {
-        table: Vec<u8>,
+        table: Span,
         glyph: u32,
     },
     /// Asks the class table in these bytes for a glyph.
     Class {
-        table: Vec<u8>,
+        table: Span,
         glyph: u32,
     },
     /// Adds these glyphs to an empty digest.
     DigestOf {
-        glyphs: Vec<u32>,
+        glyphs: Span,
     },
     /// Adds the glyphs from `first` to `last` to an empty digest.
     DigestSpan {
@@ -69,25 +70,25 @@ pub enum Command {
     Left,
     /// Opens the subtable in these bytes.
     Open {
-        table: Vec<u8>,
+        table: Span,
         chained: bool,
     },
     /// Opens the subtable of a wide kind in these bytes.
     OpenWide {
-        table: Vec<u8>,
+        table: Span,
         parts: WideParts,
     },
     /// Asks a listed subtable for the hit at a place of a run.
     Hit {
         subtable: u32,
         place: usize,
-        glyphs: Vec<u32>,
+        glyphs: Span,
     },
     /// Asks a listed subtable whether it would apply to a list of glyphs.
     Applies {
         subtable: u32,
         zero_context: bool,
-        glyphs: Vec<u32>,
+        glyphs: Span,
     },
     /// Puts the last listed subtable aside.
     Aside,
@@ -106,40 +107,23 @@ pub enum Command {
     OnBook(BookCommand),
 }
 
-/// A command on a book.
-#[derive(Drop)]
+/// A command on a book. Glyphs stand in the script's buffer.
+#[derive(Clone, Copy)]
 pub enum BookCommand {
     /// Filters a subtable.
-    Filter {
-        subtable: u32,
-    },
+    Filter { subtable: u32 },
     /// Forgets the filter of a subtable.
-    Forget {
-        subtable: u32,
-    },
+    Forget { subtable: u32 },
     /// Asks for the state of a slot.
-    State {
-        subtable: u32,
-    },
+    State { subtable: u32 },
     /// Asks whether some subtable would apply to a list of glyphs.
-    WouldApply {
-        zero_context: bool,
-        glyphs: Vec<u32>,
-    },
+    WouldApply { zero_context: bool, glyphs: Span },
     /// Lists the hits of a run in a list of so many entries.
-    Scan {
-        count: u32,
-        glyphs: Vec<u32>,
-    },
+    Scan { count: u32, glyphs: Span },
     /// Puts the filter call to the bank beside.
-    MasksBeside {
-        subtable: u32,
-    },
+    MasksBeside { subtable: u32 },
     /// Fills the rule-set words of a subtable that was put aside into a buffer of so many words.
-    WordsBeside {
-        subtable: u32,
-        count: u32,
-    },
+    WordsBeside { subtable: u32, count: u32 },
     /// Ends the book and starts another on the same bank.
     Anew,
     /// Ends the book.

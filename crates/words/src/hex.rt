@@ -1,13 +1,11 @@
 //! Bytes written as hexadecimal digits.
-ghost use Rattle.std.specs.Prelude.{◌≡◌, ◌<◌, IsErrOf, alloc_error};
+ghost use Rattle.std.specs.Prelude.{◌≡◌, ◌<◌};
 ghost use Rattle.std.specs.Char.{is_ascii_hexdigit};
 ghost use Rattle.std.specs.List.{list_all};
-ghost use Rattle.words.specs.Hex.{NeedMemory, hex_in, nibble};
-ghost use Rattle.words.specs.Reading.{Read};
-ghost use Rattle.words.specs.declared.fault.Unread.TheVariants.{NoMemory};
+ghost use Rattle.words.specs.Hex.{Appended, hex_in, nibble};
 
 use crate::fault::{Fault, Unread};
-use std::alloc::Global;
+use crate::span::Span;
 
 /// The word that stands for no bytes.
 const NO_BYTES: &[u8] = b"-";
@@ -32,13 +30,13 @@ fn digit(b: u8) -> u8
     }
 }
 
-/// The bytes that a word writes.
-pub fn hex(heap: Global, word: &[u8]) -> Result<Vec<u8>, Unread>
-    ensures value { Read (hex_in word.now) (λ v. v.items) result }
-    ensures memory { IsErrOf result (NoMemory alloc_error) → NeedMemory (hex_in word.now) }
+/// Appends the bytes that a word writes, and says where they stand. A word that is refused appends nothing.
+pub fn hex(word: &[u8], bytes: &mut Vec<u8>) -> Result<Span, Unread>
+    ensures { Appended (hex_in word.now) bytes.old bytes.new result }
 {
+    let start = bytes.len();
     if word == NO_BYTES {
-        return Ok(Vec::new(heap));
+        return Ok(Span { start, end: start });
     }
     if !all_hex(word) {
         return Err(Fault::NotHex.into());
@@ -47,12 +45,15 @@ pub fn hex(heap: Global, word: &[u8]) -> Result<Vec<u8>, Unread>
     if !rest.is_empty() {
         return Err(Fault::OddHex.into());
     }
-    // Room for all of them at once, and no `collect`: memory lacks only where there is a byte to keep.
-    let mut bytes = Vec::with_capacity(heap, pairs.len())?;
+    // Room for all of them at once: memory lacks only where the buffer has no room for them.
+    bytes.reserve(pairs.len())?;
     for [high, low] in pairs {
         bytes.push_reserved(digit(*high) * 16 + digit(*low));
     }
-    Ok(bytes)
+    Ok(Span {
+        start,
+        end: bytes.len(),
+    })
 }
 
 #[cfg(test)]
@@ -62,15 +63,19 @@ mod tests {
 
     #[test]
     fn pairs_of_digits_are_bytes(rt: HostRuntime) -> Result<(), Fail> {
-        let read = hex(rt.alloc(), b"00fFA0");
-        assert!(rt; read.is_ok_and(|bytes| bytes.as_slice() == [0, 255, 160].as_slice()));
+        let mut bytes = Vec::new(rt.alloc());
+        let read = hex(b"00fFA0", &mut bytes);
+        assert!(rt; read.is_ok_and(|span| span.start == 0 && span.end == 3));
+        assert!(rt; bytes.as_slice() == [0, 255, 160].as_slice());
         Ok(())
     }
 
     #[test]
     fn a_dash_stands_for_no_bytes(rt: HostRuntime) -> Result<(), Fail> {
-        let read = hex(rt.alloc(), b"-");
-        assert!(rt; read.is_ok_and(|bytes| bytes.is_empty()));
+        let mut bytes = Vec::new(rt.alloc());
+        let read = hex(b"-", &mut bytes);
+        assert!(rt; read.is_ok_and(|span| span.start == 0 && span.end == 0));
+        assert!(rt; bytes.is_empty());
         Ok(())
     }
 }

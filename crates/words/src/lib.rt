@@ -5,3 +5,4 @@ pub mod fault;
 pub mod hex;
 pub mod line;
 pub mod numbers;
+pub mod span;

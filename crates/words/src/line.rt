@@ -12,7 +12,10 @@ pub fn index_of(text: &[u8], b: u8) -> usize
     ensures value { result ≡ index_of b text.now }
     ensures within { result ≤ length text.now }
 {
-    text.iter().position(|x| *x == b).unwrap_or(text.len())
+    match text.iter().position(|x| *x == b) {
+        Some(at) => at,
+        None => text.len(),
+    }
 }
 
 /// How many spaces the text begins with. Beside `index_of`: each is one call of the library, by another test.

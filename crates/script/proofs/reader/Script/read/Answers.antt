@@ -11,9 +11,9 @@ use Rattle.script.proofs.reader.Script.read.Goals as goal
 all_yielded : {S A B : Type 0} {steps : S → Option A → S → Type 0} {v : A → B} {s : S} {all : List B} (xs : List A) (t : S) → Yields steps s xs t → (r : Option A) (u : S) → r ≡ None → steps t r u → YieldsList steps v s all → map v xs ≡ all
 all_yielded xs t y r u none step e = (YieldsList-end e xs t y r u none step).0
 
-pub returns : goal.returns
-returns c =
-    c.loop-line.invariant
+pub returns-clause-value : goal.returns-clause-value
+returns-clause-value c =
+    c.loop-line.invariant.1
     ∙ ap (flat_map line_said)
     (all_yielded c.loop-line.yielded _ c.loop-line.yielded_by _ _ c.in-None.is c.next.ensures.steps
     (YieldsList-from_slice_split _ (λ b. eqb b 10) c.args.text.now (cc) (cc) c.split-line-items.ensures.closure
