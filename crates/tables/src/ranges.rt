@@ -7,7 +7,7 @@ ghost use Rattle.tables.specs.Records.{left_of, record_at, records_of};
 ghost use Rattle.tables.specs.declared.ranges.RangeRecord.{RangeRecord};
 
 use crate::search::Ranges;
-use readers::bytes::number;
+use readers::bytes::{number, tail};
 use readers::each::{Each, Indexed};
 use readers::uints::{Uints, counted_entries};
 use readers::width::Two;
@@ -59,10 +59,18 @@ impl<'a> RangeRecords<'a> {
         ensures bound { result.value < 65536 }
     {
         let place = self.place(index);
-        RangeRecord {
-            start: number::<Two>(self.bytes, place),
-            end: number::<Two>(self.bytes, place + END_PLACE),
-            value: number::<Two>(self.bytes, place + VALUE_PLACE),
+        match tail(self.bytes, place) {
+            // A record that lies inside is read at once.
+            Some([a, b, c, d, e, f, ..]) => RangeRecord {
+                start: u32::from_be_bytes([0, 0, *a, *b]),
+                end: u32::from_be_bytes([0, 0, *c, *d]),
+                value: u32::from_be_bytes([0, 0, *e, *f]),
+            },
+            _ => RangeRecord {
+                start: number::<Two>(self.bytes, place),
+                end: number::<Two>(self.bytes, place + END_PLACE),
+                value: number::<Two>(self.bytes, place + VALUE_PLACE),
+            },
         }
     }
 
