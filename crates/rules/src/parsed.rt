@@ -1,6 +1,7 @@
 //! Rules, parsed from their bytes.
-ghost use Rattle.std.specs.Prelude.{◌≡◌, Some};
+ghost use Rattle.std.specs.Prelude.{◌≡◌, ◌+◌, ◌-◌, ◌^◌, ◌<◌, Some};
 ghost use Rattle.std.specs.Option.{option_map};
+ghost use Rattle.opentype.specs.Bytes.{number as number_at};
 ghost use Rattle.opentype.specs.Rules.{chained_rule, plain_rule, rule_in};
 ghost use Rattle.rules.specs.Views.{rule_of};
 
@@ -40,6 +41,20 @@ fn no_values<'a>(bytes: &'a [u8]) -> Uints<'a>
         bytes,
         start: 0,
         count: 0,
+    }
+}
+
+/// The values behind a count of two bytes at `place`, `less` fewer than it says. Whether they lie inside is not asked: the
+/// records behind them say it for all of a rule's values at once.
+fn values_at<'a>(bytes: &'a [u8], place: u32, less: u32) -> Uints<'a>
+    requires near { place < 2 ^ 20 }
+    ensures values { (result.bytes.now ≡ bytes.now) × (result.start ≡ place + 2) × (result.count ≡ number_at 2 bytes.now place - less) }
+    ensures bound { result.count < 65536 }
+{
+    Uints {
+        bytes,
+        start: place + 2,
+        count: number::<Two>(bytes, place as usize).saturating_sub(less),
     }
 }
 
@@ -85,9 +100,9 @@ impl<'a, W: Width> ParsedRule<'a, W> {
         ensures { option_map (rule_of W.Width.BYTES) result ≡ chained_rule W.Width.BYTES whole bytes.now }
     {
         let width = W::BYTES as u32;
-        let backtrack = Uints::counted::<W>(bytes, 0, 0)?;
-        let input = Uints::counted::<W>(bytes, backtrack.start + width * backtrack.count, 1)?;
-        let lookahead = Uints::counted::<W>(bytes, input.start + width * input.count, 0)?;
+        let backtrack = values_at(bytes, 0, 0);
+        let input = values_at(bytes, backtrack.start + width * backtrack.count, 1);
+        let lookahead = values_at(bytes, input.start + width * input.count, 0);
         let record_place = (lookahead.start + width * lookahead.count) as usize;
         let record_count = number::<Two>(bytes, record_place);
         if record_place + 2 + RECORD_BYTES * record_count as usize > bytes.len() {

@@ -2,6 +2,7 @@
 ghost use Rattle.std.specs.Prelude.{◌≡◌, Some};
 ghost use Rattle.std.specs.Option.{option_map};
 ghost use Rattle.opentype.specs.Matching.{rule_finds, rule_matches, set_finds};
+ghost use Rattle.opentype.specs.Rules.{rule_in};
 ghost use Rattle.rules.specs.Views.{found_of, matchers_of, rule_of, rules_of};
 
 use crate::matching::ValueMatch;
@@ -80,6 +81,21 @@ impl<'a, F: RuleWidths> Rules<'a, F> {
     ) -> Option<Found>
         ensures { option_map found_of result ≡ set_finds (matchers_of B.ValueMatch.means I.ValueMatch.means L.ValueMatch.means matchers.now) run.now place (rules_of F.Offset.BYTES F.Value.BYTES self.now) }
     {
-        self.iter().find_map(|rule| rule.and_then(|rule| rule.find(matchers, run, place)))
+        // Over the rules' bytes, so that no parsed rule is moved through an iterator.
+        self.parts()
+            .find_map(|part| self.find_in(part, matchers, run, place))
+    }
+
+    /// What the rule in these bytes tells, where it is readable and matches at `place` of `run`.
+    fn find_in<B: ValueMatch, I: ValueMatch, L: ValueMatch>(
+        &self,
+        part: Option<&[u8]>,
+        matchers: &ChainMatchers<B, I, L>,
+        run: &[u32],
+        place: usize,
+    ) -> Option<Found>
+        ensures { option_map found_of result ≡ rule_finds (matchers_of B.ValueMatch.means I.ValueMatch.means L.ValueMatch.means matchers.now) run.now place (rule_in self.now.layout.chained F.Value.BYTES self.now.layout.whole (option_map (λ x. x.now) part.entry)) }
+    {
+        ParsedRule::<F::Value>::parse(part?, self.layout)?.find(matchers, run, place)
     }
 }
