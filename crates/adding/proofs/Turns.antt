@@ -28,7 +28,7 @@ ended AnyGlyph m = tt
 module _ (step : ℕ → List ℕ → Step) {start here : Gathering} (i : ℕ) (before : CarriedOut (walk_below step i) start here (Ok tt))
     {next : Gathering} where
   -- it goes on
-  goes_on : CarriedOut (step i) here next (Ok tt) → CarriedOut (walk_below step (i + 1)) start next (Ok tt)
+  pub goes_on : CarriedOut (step i) here next (Ok tt) → CarriedOut (walk_below step (i + 1)) start next (Ok tt)
   goes_on now = record {
     answer =
         now.answer ∙ sym (turn step start.digest.masks (allowance_of start.budget.now) i here.digest.masks (allowance_of here.budget.now) before.answer);
@@ -36,7 +36,7 @@ module _ (step : ℕ → List ℕ → Step) {start here : Gathering} (i : ℕ) (
   }
 
   -- it stops, and with it the walk
-  goes_out : (n : ℕ) → i < n → (stop : Stop) (r : Result (Unit {0}) Stop) → CarriedOut (step i) here next (Err stop)
+  pub goes_out : (n : ℕ) → i < n → (stop : Stop) (r : Result (Unit {0}) Stop) → CarriedOut (step i) here next (Err stop)
       → IsErrAnd r (λ e. e ≡ stop) → CarriedOut (walk_below step n) start next r
   goes_out n l stop r now out =
       let p = err_from_is_err_and r out in

@@ -3,10 +3,8 @@
 use Rattle.std.specs.Prelude.{◌≡◌, ℕ, List, Ok, Err, Result}
 use Rattle.opentype.specs.Carried.{Ending, refused, halted, reached, Outcome, carried}
 use Rattle.opentype.specs.Draws.{Allowance}
-use Rattle.opentype.specs.Ranges.{Ranges}
 use Rattle.opentype.specs.Walks.{Step}
 use Rattle.digest.specs.Allowances.{allowance_of}
-use Rattle.tables.specs.declared.ranges.RangeRecord.{RangeRecord}
 use Rattle.adding.specs.declared.gathering.Gathering.{Gathering}
 use Rattle.adding.specs.declared.stop.Stop.{Stop}
 use Rattle.adding.specs.declared.stop.Stop.TheVariants.{Exhausted, AnyGlyph}
@@ -24,7 +22,3 @@ outcome left r masks = record { left = left; ending = ending_of r masks }
 pub record CarriedOut (step : List ℕ → Step) (before after : Gathering) (r : Result (Unit {0}) Stop) : Type 0 where
   pub answer : outcome (allowance_of after.budget.now) r after.digest.masks ≡ carried (step before.digest.masks) (allowance_of before.budget.now)
   pub same_allowance : after.budget.ghost_name ≡ before.budget.ghost_name
-
--- the ranges of one record
-abbrev pub alone : RangeRecord → Ranges
-alone r = record { count = 1; start = λ _. r.start; end = λ _. r.end; value = λ _. r.value }

@@ -5,7 +5,7 @@ ghost use Rattle.opentype.specs.Walks.{walk_below};
 ghost use Rattle.readers.specs.Views.{uints_of};
 ghost use Rattle.tables.specs.Tables.{classes_of};
 ghost use Rattle.tables.specs.Views.{ranges_of};
-ghost use Rattle.adding.specs.Walked.{CarriedOut, alone};
+ghost use Rattle.adding.specs.Walked.{CarriedOut};
 
 use crate::gathering::Gathering;
 use crate::stop::Stop;
@@ -13,7 +13,7 @@ use digest::set_digest::SetDigest;
 use readers::uints::Uints;
 use readers::width::Two;
 use tables::class::ClassDef;
-use tables::ranges::{RangeRecord, RangeRecords};
+use tables::ranges::RangeRecords;
 use tables::search::Ranges;
 
 /// The largest glyph that an array adds.
@@ -64,18 +64,21 @@ impl Gathering<'_> {
     fn add_ranges(&mut self, ranges: &RangeRecords, class: u32) -> Result<(), Stop>
         ensures { let all = ranges_of ranges.now in CarriedOut (walk_below (add_range all class) all.count) self.old self.new result }
     {
-        for range in ranges.iter() {
-            self.add_range(range, class)?;
+        // By index: most ranges are of another class, and a range's value alone is read sooner than its whole record, with
+        // which this took more than 1.5 times the time.
+        for i in 0..ranges.len() {
+            self.add_range(ranges, i, class)?;
         }
         Ok(())
     }
 
-    /// Adds a range where it has the class: as a span, in place of one glyph after the other. A reversed range has no
+    /// Adds range `index` where it has the class: as a span, in place of one glyph after the other. A reversed range has no
     /// glyph.
-    fn add_range(&mut self, range: RangeRecord, class: u32) -> Result<(), Stop>
-        ensures { CarriedOut (add_range (alone range) class 0) self.old self.new result }
+    fn add_range(&mut self, ranges: &RangeRecords, index: u32, class: u32) -> Result<(), Stop>
+        ensures { CarriedOut (add_range (ranges_of ranges.now) class index) self.old self.new result }
     {
-        if range.value == class {
+        if ranges.value(index) == class {
+            let range = ranges.get(index);
             self.budget
                 .work(u64::from(range.end.saturating_sub(range.start)) + 1)?;
             add_glyphs_from(range.start, range.end, &mut self.digest);

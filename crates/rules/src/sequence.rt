@@ -25,8 +25,7 @@ pub(crate) fn matches_from<W: Width, M: ValueMatch>(
             .all(|(value, glyph)| matcher.matches(value, *glyph))
 }
 
-/// Whether value 0 matches the glyph just before `place`, value 1 the one before that, and so outwards. Apart from
-/// `matches_from`: the glyphs are another iterator type, and one text over both would be told its list by a clause.
+/// Whether value 0 matches the glyph just before `place`, value 1 the one before that, and so outwards.
 pub(crate) fn matches_before<W: Width, M: ValueMatch>(
     values: &Uints,
     matcher: &M,
@@ -36,10 +35,14 @@ pub(crate) fn matches_before<W: Width, M: ValueMatch>(
     requires { place ≤ length run.now }
     ensures { result ≡ matches_before (M.ValueMatch.means matcher.now) (uints_of W.Width.BYTES values.now) run.now place }
 {
-    let glyphs = &run[..place];
-    glyphs.len() >= values.count as usize
-        && values
-            .iter::<W>()
-            .zip(glyphs.iter().rev())
-            .all(|(value, glyph)| matcher.matches(value, *glyph))
+    if place < values.count as usize {
+        return false;
+    }
+    // By index: over the glyphs turned about, by `zip`, `rev` and `all`, it took more than twice the time.
+    for i in 0..values.count {
+        if !matcher.matches(values.get::<W>(i), run[place - 1 - i as usize]) {
+            return false;
+        }
+    }
+    true
 }

@@ -79,7 +79,7 @@ impl<'a> RangeRecords<'a> {
         ensures value { result ≡ (ranges_of self.now).value index }
         ensures bound { result < 65536 }
     {
-        self.get(index).value
+        number::<Two>(self.bytes, self.place(index) + VALUE_PLACE)
     }
 
     /// The records, in order.

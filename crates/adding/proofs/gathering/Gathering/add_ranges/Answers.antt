@@ -1,24 +1,15 @@
+use Rattle.std.proofs.Common.{◌<◌, arith}
 use Rattle.opentype.specs.Filters.{add_range}
-use Rattle.tables.specs.Records.{left_of}
-use Rattle.tables.specs.declared.ranges.RangeRecord.{RangeRecord}
-use Rattle.adding.specs.Walked.{alone}
-use Rattle.readers.proofs.Giving.{gives}
-use Rattle.adding.proofs.Turns.{walks_on, walks_out, walks_all}
+use Rattle.tables.specs.Views.{ranges_of}
+use Rattle.adding.proofs.Turns.{goes_on, goes_out}
 use Rattle.adding.proofs.gathering.Gathering.add_ranges.Goals as goal
 
 pub returns-in_err-add_range : goal.returns-in_err-add_range
 returns-in_err-add_range c =
-    walks_out (gives (λ (range : RangeRecord). range) left_of c.into_iter-range-iterator.ensures.into_iter_gives c.iter-range-items.ensures) c.loop-range.yielded _ c.loop-range.yielded_by c.next.new.self c.next.ensures.steps
-    (λ (range : RangeRecord). add_range (alone range) c.args.class 0) c.loop-range.invariant c.in-Some.range c.in-Some.is
-    c.in_err-add_range.ensures c.from_residual.ensures.1
+    let all = ranges_of c.args.ranges.now in
+    let within : c.loop-i.i < all.count = omega arith in
+    goes_out (add_range all c.args.class) c.loop-i.i c.loop-i.invariant all.count within _ _ c.in_err-add_range.ensures c.from_residual.ensures.1
 
-pub loop-range-preserved : goal.loop-range-preserved
-loop-range-preserved c =
-    walks_on (gives (λ (range : RangeRecord). range) left_of c.into_iter-range-iterator.ensures.into_iter_gives c.iter-range-items.ensures) c.loop-range.yielded _ c.loop-range.yielded_by c.next.new.self c.next.ensures.steps
-    (λ (range : RangeRecord). add_range (alone range) c.args.class 0) c.loop-range.invariant c.in-Some.range c.in-Some.is
-    c.in_ok-add_range.ensures
-
-pub returns : goal.returns
-returns c =
-    walks_all (gives (λ (range : RangeRecord). range) left_of c.into_iter-range-iterator.ensures.into_iter_gives c.iter-range-items.ensures) c.loop-range.yielded _ c.loop-range.yielded_by c.next.new.self c.next.ensures.steps
-    (λ (range : RangeRecord). add_range (alone range) c.args.class 0) c.loop-range.invariant c.in-None.is
+pub loop-i-preserved : goal.loop-i-preserved
+loop-i-preserved c =
+    goes_on (add_range (ranges_of c.args.ranges.now) c.args.class) c.loop-i.i c.loop-i.invariant c.in_ok-add_range.ensures
