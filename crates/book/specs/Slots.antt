@@ -1,7 +1,6 @@
 -- What a slot holds, what an event makes of it, and what the slots of a book keep true.
 -- Assumes nothing.
 use Rattle.std.specs.Prelude.{◌≡◌, ℕ, ◌<◌, Bool, true, false, List, [], slice_index_or, slice_set}
-use Rattle.std.specs.Coded.{Coded-set, coded_bool, coded_list, coded_ℕ, Π_prop, ×_prop}
 use Rattle.opentype.specs.Masks.{full}
 use Rattle.opentype.specs.Meaning.{Filter, Subtable, subtable}
 use Rattle.book.specs.declared.slots.Slot.{Slot}
@@ -57,13 +56,3 @@ MasksBy GivenUp filter masks = masks ≡ full
 -- what the slots keep true: every held slot has its subtable's masks, and every other all ones
 abbrev pub Kept : List Subtable → List Slot → Type 0
 Kept bank slots = (k : ℕ) → k < 32 → MasksBy (slot_at slots k).state (subtable bank k).filter (slot_at slots k).digest.masks
-
--- each has at most one proof, so that a book can keep one
-
-pub MasksBy-prop : (state : SlotState) (filter : Filter) (masks : List ℕ) → IsProp (MasksBy state filter masks)
-MasksBy-prop Bare filter masks = Coded-set (coded_list coded_ℕ) masks full
-MasksBy-prop Held filter masks = ×_prop (Coded-set coded_bool filter.can true) (Coded-set (coded_list coded_ℕ) masks filter.masks)
-MasksBy-prop GivenUp filter masks = Coded-set (coded_list coded_ℕ) masks full
-
-pub Kept-prop : (bank : List Subtable) (slots : List Slot) → IsProp (Kept bank slots)
-Kept-prop bank slots = Π_prop (λ k. Π_prop (λ _. MasksBy-prop (slot_at slots k).state (subtable bank k).filter (slot_at slots k).digest.masks))

@@ -1,10 +1,11 @@
-//! The calls of a book.
+//! The calls of a book. `Kept` says that every held slot has its subtable's masks and every other all ones: `new` and
+//! `anew` make it so, and every call keeps it.
 ghost use Rattle.std.specs.Prelude.{◌≡◌, ◌≤◌, length, replicate, IfOk, Ok};
 ghost use Rattle.answers.specs.Questions.{answered, list_refused, place_refused};
 ghost use Rattle.opentype.specs.Meaning.{subtable};
 ghost use Rattle.digest.specs.Allowances.{allowance_of};
 ghost use Rattle.bank.specs.Answers.{digest_leaves};
-ghost use Rattle.book.specs.Slots.{Kept, Kept-prop, bare};
+ghost use Rattle.book.specs.Slots.{Kept, bare};
 ghost use Rattle.book.specs.Scans.{applies_in, hit_at, scan_answer, scan_list, tries_at};
 ghost use Rattle.book.specs.Calls.{filter_answer, filter_slots, forget_answer, forget_slots, of_subtable, state_answer};
 
@@ -15,11 +16,9 @@ use digest::budget::Budget;
 
 /// A bank, and the filters of its subtables that are held. It takes the bank, and can be neither copied nor dropped:
 /// `end` gives the bank back.
-pub struct Book<B: Filtering> {
+pub struct Book<B> {
     bank: B,
     slots: Slots,
-    // Every held slot has its subtable's masks, and every other all ones.
-    pub ghost kept: { Kept (B.Matching.meaning bank) slots.table } by { Kept-prop (B.Matching.meaning bank) slots.table },
 }
 
 /// What an accepted scan returns.
@@ -43,6 +42,7 @@ impl<B: Filtering> Book<B> {
     pub fn new(bank: B) -> Self
         ensures bank { result.bank ≡ bank }
         ensures slots { result.slots.table ≡ replicate 32 bare }
+        ensures kept { Kept (B.Matching.meaning bank) result.slots.table }
     {
         Book {
             bank,
@@ -68,6 +68,7 @@ impl<B: Filtering> Book<B> {
         ensures bank { self.new.bank ≡ self.old.bank }
         ensures slots { self.new.slots.table ≡ filter_slots (B.Matching.meaning self.old.bank) k (allowance_of budget.old) self.old.slots.table }
         ensures left { allowance_of budget.new ≡ digest_leaves (subtable (B.Matching.meaning self.old.bank) k) (allowance_of budget.old) }
+        ensures kept { Kept (B.Matching.meaning self.old.bank) self.old.slots.table → Kept (B.Matching.meaning self.old.bank) self.new.slots.table }
     {
         self.ask_subtable(k)?;
         if !self.bank.can_filter(k) {
@@ -84,6 +85,7 @@ impl<B: Filtering> Book<B> {
         ensures answer { result ≡ forget_answer (B.Matching.meaning self.old.bank) k }
         ensures bank { self.new.bank ≡ self.old.bank }
         ensures slots { self.new.slots.table ≡ forget_slots (B.Matching.meaning self.old.bank) k self.old.slots.table }
+        ensures kept { Kept (B.Matching.meaning self.old.bank) self.old.slots.table → Kept (B.Matching.meaning self.old.bank) self.new.slots.table }
     {
         self.ask_subtable(k)?;
         self.slots.happen(k, SlotEvent::Forget);
@@ -168,6 +170,7 @@ impl<B: Filtering> Book<B> {
     pub fn anew(&mut self)
         ensures bank { self.new.bank ≡ self.old.bank }
         ensures slots { self.new.slots.table ≡ replicate 32 bare }
+        ensures kept { Kept (B.Matching.meaning self.old.bank) self.new.slots.table }
     {
         self.slots = Slots::new();
     }

@@ -12,7 +12,7 @@ use calls::Line;
 use digest::budget::Budget;
 
 /// The two books, after their calls.
-pub struct Audited<A: Filtering, B: Filtering> {
+pub struct Audited<A, B> {
     pub one: Book<A>,
     pub other: Book<B>,
 }

@@ -13,7 +13,7 @@ use calls::Line;
 use digest::budget::Budget;
 
 /// The bank of the first book, which is ended, and the second book.
-pub struct Turns<A, B: Filtering> {
+pub struct Turns<A, B> {
     pub ended: A,
     pub book: Book<B>,
 }
