@@ -1,4 +1,7 @@
 //! What the commands of a script work on.
+ghost use Rattle.std.specs.Prelude.{◌≡◌};
+ghost use Rattle.panel.specs.Answers.{answer_of};
+
 use crate::failed::Failed;
 use crate::sheet::{Banks, Sheet};
 use answers::Refusal;
@@ -229,7 +232,9 @@ pub(crate) fn nth<'l, 'a>(
 }
 
 /// What a command is answered, where there was memory for it.
-pub(crate) fn answered<T: Drop>(done: Result<T, Failed>) -> Result<Result<T, Denied>, AllocError> {
+pub(crate) fn answered<T: Drop>(done: Result<T, Failed>) -> Result<Result<T, Denied>, AllocError>
+    ensures { result ≡ answer_of done }
+{
     // No method turns one result into two by the kind of its error.
     match done {
         Ok(value) => Ok(Ok(value)),
