@@ -1,4 +1,4 @@
-use Rattle.std.proofs.Common.{length, vec_items}
+use Rattle.std.proofs.Common.{vec_items}
 use Rattle.script.proofs.Reading.{GlyphsSoFar}
 use Rattle.words.specs.Words.{words_in}
 use Rattle.script.proofs.appended.push_glyphs.Given as goal

@@ -1,4 +1,4 @@
-use Rattle.std.proofs.Common.{Some, Ok, sym, refl, ap, ◌∙◌}
+use Rattle.std.proofs.Common.{Some, Ok, refl, ap, ◌∙◌}
 use Rattle.std.proofs.lemmas.Result.{err_from_is_err_and}
 use Rattle.words.specs.Hex.{hex_in}
 use Rattle.words.specs.Words.{words_in}
