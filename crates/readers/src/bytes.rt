@@ -10,7 +10,11 @@ pub fn number<W: Width>(bytes: &[u8], place: usize) -> u32
     ensures value { result ≡ number_at W.Width.BYTES bytes.now place }
     ensures bound { result < 256 ^ W.Width.BYTES }
 {
-    tail(bytes, place).map_or(0, |rest| W::first(rest))
+    // Not by `tail`: an `Option` between makes each loop that reads numbers longer.
+    if place >= bytes.len() {
+        return 0;
+    }
+    W::first(&bytes[place..])
 }
 
 /// The big-endian number at `place`, or none where it does not lie inside.

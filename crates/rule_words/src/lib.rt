@@ -74,7 +74,8 @@ fn fill<F: RuleWidths>(
 }
 
 /// The word of the set at `offset`, after a draw of its rule count: empty where the set is null, all ones where it is
-/// unreadable or a rule has no first input.
+/// unreadable or a rule has no first input. Compiled apart from `fill`, in which the loop over the rules lacks registers.
+#[inline(never)]
 fn set_word<F: RuleWidths>(
     sets: &RuleSets<F>,
     offset: u32,

@@ -58,19 +58,30 @@ impl<'a> RangeRecords<'a> {
         ensures value { result ≡ record_at (ranges_of self.now) index }
         ensures bound { result.value < 65536 }
     {
-        let place = self.place(index);
-        match tail(self.bytes, place) {
+        match tail(self.bytes, self.place(index)) {
             // A record that lies inside is read at once.
             Some([a, b, c, d, e, f, ..]) => RangeRecord {
                 start: u32::from_be_bytes([0, 0, *a, *b]),
                 end: u32::from_be_bytes([0, 0, *c, *d]),
                 value: u32::from_be_bytes([0, 0, *e, *f]),
             },
-            _ => RangeRecord {
-                start: number::<Two>(self.bytes, place),
-                end: number::<Two>(self.bytes, place + END_PLACE),
-                value: number::<Two>(self.bytes, place + VALUE_PLACE),
-            },
+            _ => self.cut_short(index),
+        }
+    }
+
+    /// Record `index`, read number by number: for one that passes the end, whose case is kept out of the loops that read
+    /// records.
+    #[cold]
+    #[inline(never)]
+    fn cut_short(&self, index: u32) -> RangeRecord
+        ensures value { result ≡ record_at (ranges_of self.now) index }
+        ensures bound { result.value < 65536 }
+    {
+        let place = self.place(index);
+        RangeRecord {
+            start: number::<Two>(self.bytes, place),
+            end: number::<Two>(self.bytes, place + END_PLACE),
+            value: number::<Two>(self.bytes, place + VALUE_PLACE),
         }
     }
 
